@@ -1,0 +1,4 @@
+pub mod Question
+pub mod Number
+pub mod Layout
+pub mod Record
