@@ -22,15 +22,24 @@ unfoldable pub ask : {A : Type 0} → List Question → Answer A → Answer A
 ask [] rest = rest
 ask ((holds else number) ∷ questions) rest = cond holds (ask questions rest) (refused number)
 
+-- every answer is "yes"
+abbrev pub allYes : List Question → Bool
+allYes [] = true
+allYes ((holds else number) ∷ questions) = holds && allYes questions
+
 -- what is held after a call: what it gives, and after a refusal what was held before
 abbrev pub after : {A : Type 0} → A → Answer A → A
 after before (given a) = a
 after before (refused number) = before
 
+-- what follows an answer, made of what it gives; a refusal ends it
+abbrev pub bind : {A B : Type 0} → Answer A → (A → Answer B) → Answer B
+bind (given a) rest = rest a
+bind (refused number) rest = refused number
+
 -- what follows an answer that is no refusal
 abbrev pub next : {A B : Type 0} → Answer A → Answer B → Answer B
-next (given a) rest = rest
-next (refused number) rest = refused number
+next answer rest = bind answer (λ _. rest)
 
 -- what a call gives that has nothing to give: that it worked
 pub data Worked : Type 0 where
