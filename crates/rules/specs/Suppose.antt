@@ -86,7 +86,7 @@ pub record Correct (u : Settings) (faulty : ℕ → Bool) (i : ℕ) : Type 0 whe
 
 -- what is supposed of the run of one correct replica
 pub record Orderly (u : Settings) (calls : ℕ → List Call) (bag : List Request) (i : ℕ) : Type 0 where
-  pub bag : SameBag (requestsOf (arrivalsOf u calls i)) bag
+  pub same : SameBag (requestsOf (arrivalsOf u calls i)) bag
   pub rule : ArrivalRule (u .delta) (arrivalsOf u calls i)
   pub closed : Closed (newState u i) (calls i)
 
