@@ -1,3 +1,6 @@
+use native.Mathlib.Nat.{pow-zero, div-one}
+use Rattle.record.specs.Number.{digits}
+use Rattle.record.specs.Layout.{bytesOf}
 use borrow.Author.Needs.{needs}
 use Rattle.record.proofs.fields.bytes_of.Statement.{statement}
 use Rattle.record.proofs.fields.bytes_of.Tie as tie
@@ -109,7 +112,17 @@ array-read-t69 c = search needs
 
 -- src/fields.rt:55:1
 returns : tie.Need-returns
-returns c = ?
+unfolding bytesOf digits
+returns c = 
+    simp (
+      c .before .before .before .before .digits2 .ensures,
+      c .before .before .before .digits22 .ensures,
+      c .before .before .digits8 .ensures,
+      c .before .digits4 .ensures,
+      c .digits42 .ensures,
+      pow-zero,
+      div-one,
+    )
 
 pub bytes-of-spec : {M : Type 1} → statement M
 bytes-of-spec =

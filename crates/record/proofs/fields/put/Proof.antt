@@ -1,3 +1,6 @@
+use lib.Seq.{take-length}
+use Rattle.record.specs.Layout.{bytesOf}
+use Rattle.record.proofs.Layouts.{length-bytes-of}
 use borrow.Author.Needs.{needs}
 use Rattle.record.proofs.fields.put.Statement.{statement}
 use Rattle.record.proofs.fields.put.Tie as tie
@@ -24,7 +27,9 @@ same-length c = search needs
 
 -- src/fields.rt:92:1
 returns : tie.Need-returns
-returns c = ?
+returns c = 
+    let a = c .before .before .before .before .before .before .before .args in
+    rw (c .before .before .before .before .before .bytes-of .ensures, take-length (bytesOf (a .f)), length-bytes-of (a .f)) at (c .before .before .copy .ensures .1)
 
 pub put-spec : {M : Type 1} → statement M
 put-spec =

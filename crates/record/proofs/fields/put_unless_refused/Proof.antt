@@ -1,3 +1,5 @@
+use mathlib.Core.Path.{ap}
+use Rattle.record.specs.Question.{outcome}
 use borrow.Author.Needs.{needs}
 use Rattle.record.proofs.fields.put_unless_refused.Statement.{statement}
 use Rattle.record.proofs.fields.put_unless_refused.Tie as tie
@@ -11,7 +13,7 @@ enum-told c = search needs
 
 -- src/fields.rt:106:26
 put-requires : tie.Need-put-requires
-put-requires c κs = ?
+put-requires c κs = c .before .before .before .before .pre (ap outcome (c .before .enum-told .given .1))
 
 enum-told-2 : tie.Need-enum-told-2
 enum-told-2 c = search needs
@@ -22,7 +24,7 @@ same-length c = search needs
 
 -- src/fields.rt:101:1
 returns : tie.Need-returns
-returns c = ?
+returns c = rw (c .before .before .before .before .enum-told .given .1) (c .before .before .put .ensures)
 
 -- src/fields.rt:101:1
 returns-2 : tie.Need-returns-2

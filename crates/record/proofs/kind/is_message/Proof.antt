@@ -1,3 +1,4 @@
+use Rattle.record.proofs.Families.{messages-family}
 use borrow.Author.Needs.{needs}
 use Rattle.record.proofs.kind.is_message.Statement.{statement}
 use Rattle.record.proofs.kind.is_message.Tie as tie
@@ -23,15 +24,15 @@ enum-told-3 c = search needs
 
 -- src/kind.rt:40:1
 returns : tie.Need-returns
-returns c = ?
+returns c = rw (← messages-family (c .before .before .before .args .kind), ← c .before .before .family-of .ensures, c .enum-told .given .1)
 
 -- src/kind.rt:40:1
 returns-2 : tie.Need-returns-2
-returns-2 c = ?
+returns-2 c = rw (← messages-family (c .before .before .before .args .kind), ← c .before .before .family-of .ensures, c .enum-told2 .given .1)
 
 -- src/kind.rt:40:1
 returns-3 : tie.Need-returns-3
-returns-3 c = ?
+returns-3 c = rw (← messages-family (c .before .before .before .args .kind), ← c .before .before .family-of .ensures, c .enum-told3 .given .1)
 
 pub is-message-spec : {M : Type 1} → statement M
 is-message-spec =

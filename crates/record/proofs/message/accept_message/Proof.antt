@@ -1,3 +1,6 @@
+use Rattle.record.specs.Question.{given, outcome}
+use Rattle.record.specs.Record.{messageQuestions, messageIn}
+use Rattle.record.proofs.Questions.{next-asked}
 use borrow.Author.Needs.{needs}
 use Rattle.record.proofs.message.accept_message.Statement.{statement}
 use Rattle.record.proofs.message.accept_message.Tie as tie
@@ -24,11 +27,18 @@ enum-known-number c = search needs
 
 -- src/message.rt:83:1
 returns : tie.Need-returns
-returns c = ?
+returns c = 
+    let a = c .before .before .before .before .args in
+    let o = c .before .before .before .check-message in
+    rw (c .message-in .ensures)
+    (rw (c .before .enum-told .given .1) at (next-asked (messageQuestions (a .k) (a .n) (a .f)) (given (messageIn (a .f))) (outcome (o .result)) (o .ensures)))
 
 -- src/message.rt:83:1
 returns-2 : tie.Need-returns-2
-returns-2 c = ?
+returns-2 c = 
+    let a = c .before .before .before .before .args in
+    let o = c .before .before .before .check-message in
+    rw (c .before .number .given .1) at (next-asked (messageQuestions (a .k) (a .n) (a .f)) (given (messageIn (a .f))) (outcome (o .result)) (o .ensures))
 
 pub accept-message-spec : {M : Type 1} → statement M
 accept-message-spec =

@@ -1,3 +1,5 @@
+use Rattle.record.specs.Question.{ask}
+use Rattle.record.specs.Record.{messageQuestions}
 use borrow.Author.Needs.{needs}
 use Rattle.record.proofs.message.check_message.Statement.{statement}
 use Rattle.record.proofs.message.check_message.Tie as tie
@@ -88,7 +90,23 @@ ask-requires-6 c κs = search needs
 
 -- src/message.rt:70:1
 returns : tie.Need-returns
-returns c = ?
+unfolding ask messageQuestions
+returns c = 
+    rw (
+      c .ask6 .ensures,
+      c .before .is-message .ensures,
+      c .before .before .ask5 .ensures,
+      c .before .before .before .is-within3 .ensures,
+      c .before .before .before .before .before .ask4 .ensures,
+      c .before .before .before .before .before .before .is-within2 .ensures,
+      c .before .before .before .before .before .before .before .before .ask3 .ensures,
+      c .before .before .before .before .before .before .before .before .before .is-within .ensures,
+      c .before .before .before .before .before .before .before .before .before .before .before .ask2 .ensures,
+      c .before .before .before .before .before .before .before .before .before .before .before .before .allows-variable .ensures,
+      c .before .before .before .before .before .before .before .before .before .before .before .before .before .ask .ensures,
+      c .before .before .before .before .before .before .before .before .before .before .before .before .before .before .allows-value .ensures,
+      c .before .before .before .before .before .before .before .before .before .before .before .before .before .before .before .spares-zero .ensures,
+    )
 
 pub check-message-spec : {M : Type 1} → statement M
 check-message-spec =

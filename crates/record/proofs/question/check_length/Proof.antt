@@ -16,7 +16,7 @@ check-unit-requires c κs = search needs
 
 -- src/question.rt:36:1
 returns : tie.Need-returns
-returns c = ?
+returns c = rw (c .check-unit .ensures, c .before .ask .ensures)
 
 pub check-length-spec : {M : Type 1} → statement M
 check-length-spec = tie.close (tie.spec ask-requires check-unit-requires returns)

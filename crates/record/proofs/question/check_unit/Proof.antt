@@ -26,7 +26,7 @@ ask-requires-2 c κs = search needs
 -- src/question.rt:28:1
 returns : tie.Need-returns
 unfolding ask unitQuestions
-returns c = ?
+returns c = rw (c .ask2 .ensures, c .before .is-within2 .ensures, c .before .before .ask .ensures, c .before .before .before .is-within .ensures)
 
 pub check-unit-spec : {M : Type 1} → statement M
 check-unit-spec =

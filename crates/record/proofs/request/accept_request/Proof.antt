@@ -1,3 +1,6 @@
+use Rattle.record.specs.Question.{given, outcome}
+use Rattle.record.specs.Record.{requestQuestions, requestIn}
+use Rattle.record.proofs.Questions.{next-asked}
 use borrow.Author.Needs.{needs}
 use Rattle.record.proofs.request.accept_request.Statement.{statement}
 use Rattle.record.proofs.request.accept_request.Tie as tie
@@ -24,11 +27,18 @@ enum-known-number c = search needs
 
 -- src/request.rt:79:1
 returns : tie.Need-returns
-returns c = ?
+returns c = 
+    let a = c .before .before .before .before .args in
+    let o = c .before .before .before .check-request in
+    rw (c .request-in .ensures)
+    (rw (c .before .enum-told .given .1) at (next-asked (requestQuestions (a .k) (a .n) (a .f)) (given (requestIn (a .f))) (outcome (o .result)) (o .ensures)))
 
 -- src/request.rt:79:1
 returns-2 : tie.Need-returns-2
-returns-2 c = ?
+returns-2 c = 
+    let a = c .before .before .before .before .args in
+    let o = c .before .before .before .check-request in
+    rw (c .before .number .given .1) at (next-asked (requestQuestions (a .k) (a .n) (a .f)) (given (requestIn (a .f))) (outcome (o .result)) (o .ensures))
 
 pub accept-request-spec : {M : Type 1} → statement M
 accept-request-spec =

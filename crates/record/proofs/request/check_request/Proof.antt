@@ -1,3 +1,5 @@
+use Rattle.record.specs.Question.{ask}
+use Rattle.record.specs.Record.{requestQuestions}
 use borrow.Author.Needs.{needs}
 use Rattle.record.proofs.request.check_request.Statement.{statement}
 use Rattle.record.proofs.request.check_request.Tie as tie
@@ -68,7 +70,21 @@ ask-requires-5 c κs = search needs
 
 -- src/request.rt:67:1
 returns : tie.Need-returns
-returns c = ?
+unfolding ask requestQuestions
+returns c = 
+    rw (
+      c .ask5 .ensures,
+      c .before .is-request .ensures,
+      c .before .before .ask4 .ensures,
+      c .before .before .before .is-within2 .ensures,
+      c .before .before .before .before .before .ask3 .ensures,
+      c .before .before .before .before .before .before .is-within .ensures,
+      c .before .before .before .before .before .before .before .before .ask2 .ensures,
+      c .before .before .before .before .before .before .before .before .before .allows-variable .ensures,
+      c .before .before .before .before .before .before .before .before .before .before .ask .ensures,
+      c .before .before .before .before .before .before .before .before .before .before .before .allows-value .ensures,
+      c .before .before .before .before .before .before .before .before .before .before .before .before .spares-zero .ensures,
+    )
 
 pub check-request-spec : {M : Type 1} → statement M
 check-request-spec =
