@@ -1,0 +1,5 @@
+pub mod Questions
+pub mod Numbers
+pub mod Layouts
+pub mod Families
+pub mod Record
