@@ -97,11 +97,9 @@ pub(crate) fn scan_line(line: &[u8]) -> Scan {
 
 // The end of the line that starts at a place.
 pub(crate) fn line_end(text: &[u8], at: usize) -> usize
-    ensures { λ r. ⌜ r ≤ length (now (text .entry)) ⌝ }
+    requires { ⌜ at ≤ length (now text) ⌝ }
+    ensures { λ r. ⌜ (at ≤ r) × (r ≤ length (now (text .entry))) ⌝ }
 {
-    if text.len() <= at {
-        return text.len();
-    }
     let mut end = at;
     while end < text.len() {
         if text[end] == b'\n' {

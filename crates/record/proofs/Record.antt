@@ -33,8 +33,8 @@ module _ (k n : ℕ) (questions : Fields → List Question) where
   pub write-verdict : (f : Fields) (destination : List ℕ) (alone : Answer Worked) → alone ≡ ask (unitQuestions k n) (ask (questions f) (ask (roomQuestion destination) (given worked))) → alone ≡ verdict (writeWith k n questions f destination)
   write-verdict f destination alone e =
       rw (← write-next f destination alone e) (sym (verdict-next alone (bytesOf f ++ drop 24 destination)))
-
   -- bytes that pass questions 1, 2 and 6 are 24
+
 pub read-length : (k n : ℕ) (bytes : List ℕ) {A : Type 0} (rest : Answer A) {a : A} → ask (unitQuestions k n) (ask (lengthQuestion bytes) rest) ≡ given a → length bytes ≡ 24
 read-length k n bytes rest e =
     eqb-true (length bytes) 24 (ask-all-yes (lengthQuestion bytes) rest (ask-through (unitQuestions k n) (ask (lengthQuestion bytes) rest) e) .0)

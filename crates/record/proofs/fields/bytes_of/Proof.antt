@@ -113,7 +113,7 @@ array-read-t69 c = search needs
 -- src/fields.rt:55:1
 returns : tie.Need-returns
 unfolding bytesOf digits
-returns c = 
+returns c =
     simp (
       c .before .before .before .before .digits2 .ensures,
       c .before .before .before .digits22 .ensures,

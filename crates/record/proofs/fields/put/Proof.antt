@@ -27,7 +27,7 @@ same-length c = search needs
 
 -- src/fields.rt:92:1
 returns : tie.Need-returns
-returns c = 
+returns c =
     let a = c .before .before .before .before .before .before .before .args in
     rw (c .before .before .before .before .before .bytes-of .ensures, take-length (bytesOf (a .f)), length-bytes-of (a .f)) at (c .before .before .copy .ensures .1)
 

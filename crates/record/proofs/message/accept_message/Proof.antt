@@ -27,7 +27,7 @@ enum-known-number c = search needs
 
 -- src/message.rt:83:1
 returns : tie.Need-returns
-returns c = 
+returns c =
     let a = c .before .before .before .before .args in
     let o = c .before .before .before .check-message in
     rw (c .message-in .ensures)
@@ -35,7 +35,7 @@ returns c =
 
 -- src/message.rt:83:1
 returns-2 : tie.Need-returns-2
-returns-2 c = 
+returns-2 c =
     let a = c .before .before .before .before .args in
     let o = c .before .before .before .check-message in
     rw (c .before .number .given .1) at (next-asked (messageQuestions (a .k) (a .n) (a .f)) (given (messageIn (a .f))) (outcome (o .result)) (o .ensures))

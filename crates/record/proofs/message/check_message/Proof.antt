@@ -91,7 +91,7 @@ ask-requires-6 c κs = search needs
 -- src/message.rt:70:1
 returns : tie.Need-returns
 unfolding ask messageQuestions
-returns c = 
+returns c =
     rw (
       c .ask6 .ensures,
       c .before .is-message .ensures,

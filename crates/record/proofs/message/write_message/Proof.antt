@@ -46,7 +46,7 @@ check-unit-requires c κs = search needs
 
 -- src/message.rt:109:5
 put-unless-refused-requires : tie.Need-put-unless-refused-requires
-put-unless-refused-requires c κs = 
+put-unless-refused-requires c κs =
     let a = c .before .before .before .before .before .before .args in
     λ e. write-room (a .k) (a .n) (messageQuestions (a .k) (a .n) (messageFields (a .m))) (a .destination .now) (given worked) (sym (asked (c .before)) ∙ e)
 
@@ -56,12 +56,11 @@ same-length c = search needs
 
 -- src/message.rt:102:1
 returns : tie.Need-returns
-returns c = 
+returns c =
     let a = c .before .before .before .before .before .before .before .before .before .args in
     let o = c .before .before .before .before in
     let questions = messageQuestions (a .k) (a .n) in
-    let fields = messageFields (a .m) in
-    (
+    let fields = messageFields (a .m) in (
       write-verdict (a .k) (a .n) questions fields (a .destination .now) (outcome (o .check-unit .result)) (asked o),
       rw (
         c .before .before .put-unless-refused .ensures,

@@ -27,7 +27,7 @@ enum-known-number c = search needs
 
 -- src/request.rt:79:1
 returns : tie.Need-returns
-returns c = 
+returns c =
     let a = c .before .before .before .before .args in
     let o = c .before .before .before .check-request in
     rw (c .request-in .ensures)
@@ -35,7 +35,7 @@ returns c =
 
 -- src/request.rt:79:1
 returns-2 : tie.Need-returns-2
-returns-2 c = 
+returns-2 c =
     let a = c .before .before .before .before .args in
     let o = c .before .before .before .check-request in
     rw (c .before .number .given .1) at (next-asked (requestQuestions (a .k) (a .n) (a .f)) (given (requestIn (a .f))) (outcome (o .result)) (o .ensures))

@@ -71,7 +71,7 @@ ask-requires-5 c κs = search needs
 -- src/request.rt:67:1
 returns : tie.Need-returns
 unfolding ask requestQuestions
-returns c = 
+returns c =
     rw (
       c .ask5 .ensures,
       c .before .is-request .ensures,

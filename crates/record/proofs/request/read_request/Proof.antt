@@ -21,7 +21,7 @@ enum-told c = search needs
 
 -- src/request.rt:92:47
 fields-of-requires : tie.Need-fields-of-requires
-fields-of-requires c κs = 
+fields-of-requires c κs =
     let a = c .before .before .before .before .args in
     let o = c .before .before .check-length in
     read-length (a .k) (a .n) (a .bytes .now) (given worked) (sym (o .ensures) ∙ ap outcome (c .enum-told .given .1))
@@ -36,7 +36,7 @@ enum-known-number c = search needs
 
 -- src/request.rt:88:1
 returns : tie.Need-returns
-returns c = 
+returns c =
     let a = c .before .before .before .before .before .before .args in
     let o = c .before .before .before .before .check-length in
     rw (c .accept-request .ensures, c .before .fields-of .ensures)
@@ -44,7 +44,7 @@ returns c =
 
 -- src/request.rt:88:1
 returns-2 : tie.Need-returns-2
-returns-2 c = 
+returns-2 c =
     let a = c .before .before .before .before .before .args in
     let o = c .before .before .before .check-length in
     rw (c .before .number .given .1) at (read-next (a .k) (a .n) (requestQuestions (a .k) (a .n)) requestIn (a .bytes .now) (outcome (o .result)) (o .ensures))

@@ -46,7 +46,7 @@ check-unit-requires c κs = search needs
 
 -- src/request.rt:105:5
 put-unless-refused-requires : tie.Need-put-unless-refused-requires
-put-unless-refused-requires c κs = 
+put-unless-refused-requires c κs =
     let a = c .before .before .before .before .before .before .args in
     λ e. write-room (a .k) (a .n) (requestQuestions (a .k) (a .n) (requestFields (a .r))) (a .destination .now) (given worked) (sym (asked (c .before)) ∙ e)
 
@@ -56,12 +56,11 @@ same-length c = search needs
 
 -- src/request.rt:98:1
 returns : tie.Need-returns
-returns c = 
+returns c =
     let a = c .before .before .before .before .before .before .before .before .before .args in
     let o = c .before .before .before .before in
     let questions = requestQuestions (a .k) (a .n) in
-    let fields = requestFields (a .r) in
-    (
+    let fields = requestFields (a .r) in (
       write-verdict (a .k) (a .n) questions fields (a .destination .now) (outcome (o .check-unit .result)) (asked o),
       rw (
         c .before .before .put-unless-refused .ensures,
