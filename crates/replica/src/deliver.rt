@@ -1,0 +1,85 @@
+// Delivery of a request.
+ghost use mathlib.Core.Path.{_≡_};
+ghost use Prim.Native.Nat.{ℕ, _<_};
+ghost use mathlib.Core.List.{[], _∷_};
+ghost use lib.Dec.{ltb};
+ghost use lib.ListN.{length};
+ghost use Rattle.question.specs.Question.{_else_, refused, given, ask, after, verdict, outcome};
+ghost use Rattle.record.specs.Record.{requestAnswer};
+ghost use Rattle.rules.specs.Replica.{timeQuestions, admit, arrive, deliver};
+ghost use Rattle.replica.specs.State.{stateOf};
+use crate::state::Replica;
+use crate::state::pending_count;
+use question::Outcome;
+use question::ask;
+use record::LocalTime;
+use record::Request;
+use record::RequestRead;
+use rules::Pending;
+
+pub struct Delivered {
+    pub outcome: Outcome,
+    pub replica: Replica,
+}
+
+// Questions 12 and 13.
+pub(crate) fn check_time(r: Replica, at: LocalTime, rest: Outcome) -> Outcome
+    ensures { λ o. ⌜ outcome o ≡ ask (timeQuestions (stateOf r) at) (outcome rest) ⌝ }
+{
+    let q13 = ask(r.last.0 <= at.0, 13, rest);
+    ask(at.0 <= 4611686018427387904, 12, q13)
+}
+
+// The request that a delivery brings, or the refusal.
+fn admit(r: Replica, bytes: &[u8], at: LocalTime) -> RequestRead
+    ensures { λ a. ⌜ requestAnswer a ≡ admit (stateOf r) (now (bytes .entry)) at ⌝ }
+{
+    let read = record::read_request(r.k, r.groups, bytes);
+    match check_time(r, at, ask(pending_count(r) < 64, 14, Outcome::Done)) {
+        Outcome::Done => read,
+        Outcome::Refused(number) => refuse_later(read, number),
+    }
+}
+
+// The refusal of the record where there is one, and else this later one.
+fn refuse_later(read: RequestRead, number: u8) -> RequestRead
+    ensures { λ a. ⌜ requestAnswer a ≡ next (requestAnswer read) (refused number) ⌝ }
+{
+    match read {
+        RequestRead::Accepted(_) => RequestRead::Refused(number),
+        RequestRead::Refused(first) => RequestRead::Refused(first),
+    }
+}
+
+// The replica with one more pending request.
+fn add_pending(r: Replica, request: Request, at: LocalTime) -> Replica
+    requires { ⌜ r .count < 64 ⌝ }
+    ensures { λ s. ⌜ stateOf s ≡ arrive (stateOf r) request at ⌝ }
+{
+    let i = r.count;
+    let mut next = r;
+    next.pending[i] = Pending {
+        request,
+        arrival: at,
+    };
+    next.count = i + 1;
+    next.last = at;
+    next
+}
+
+pub fn deliver(r: Replica, bytes: &[u8], at: LocalTime) -> Delivered
+    ensures answer { λ d. ⌜ outcome (d .outcome) ≡ verdict (deliver (stateOf r) (now (bytes .entry)) at) ⌝ }
+    ensures state { λ d. ⌜ stateOf (d .replica) ≡ after (stateOf r) (deliver (stateOf r) (now (bytes .entry)) at) ⌝ }
+    ensures kept { λ d. ⌜ ((q : ℕ) → outcome (d .outcome) ≡ refused q → d .replica ≡ r) ⌝ }
+{
+    match admit(r, bytes, at) {
+        RequestRead::Accepted(request) => Delivered {
+            outcome: Outcome::Done,
+            replica: add_pending(r, request, at),
+        },
+        RequestRead::Refused(number) => Delivered {
+            outcome: Outcome::Refused(number),
+            replica: r,
+        },
+    }
+}

@@ -1,0 +1,102 @@
+// One batch: taken off, and handled as Figure 1 says.
+ghost use mathlib.Core.Path.{_≡_};
+ghost use Prim.Native.Nat.{_+_, _≤_, _*_};
+ghost use mathlib.Core.Bool.{_&&_, not};
+ghost use lib.Dec.{eqb};
+ghost use lib.ListN.{length};
+ghost use Rattle.rules.specs.Batch.{Store, failed, oneMore, perform, fail};
+ghost use Rattle.rules.specs.Replica.{groupTimestamp, handleBatch};
+ghost use Rattle.replica.specs.State.{waiting, stateOf, withStore};
+ghost use Rattle.replica.specs.Output.{writeAt};
+use crate::output::send_halts;
+use crate::output::send_replies;
+use crate::pending::take_off;
+use crate::state::Replica;
+use crate::unanimity::all_reads;
+use crate::unanimity::first_of;
+use crate::unanimity::is_unanimous;
+use record::Request;
+use record::Timestamp;
+
+// The replica, and how many messages the step has sent so far.
+pub struct Progress {
+    pub replica: Replica,
+    pub count: usize,
+}
+
+// The owner's batch, and the store has not failed.
+fn may_change(r: Replica, group: u8) -> bool
+    ensures { λ b. ⌜ b ≡ eqb group (r .owner) && not (failed (stateOf r .store)) ⌝ }
+{
+    (group == r.owner) & !(r.variables[0] == 1)
+}
+
+// The count of writes, one more; it holds at its greatest.
+fn one_more(writes: u64) -> u64
+    ensures { λ n. ⌜ n ≡ oneMore writes ⌝ }
+{
+    if writes < 18446744073709551615 {
+        writes + 1
+    } else {
+        writes
+    }
+}
+
+// The variable takes the value. A variable past the array is nowhere.
+fn performed(r: Replica, q: Request) -> Replica
+    ensures { λ s. ⌜ stateOf s ≡ withStore (perform (q ∷ []) (stateOf r .store)) (stateOf r) ⌝ }
+{
+    let i = q.variable as usize;
+    let mut next = r;
+    next.writes = one_more(r.writes);
+    if 256 <= i {
+        return next;
+    }
+    next.variables[i] = q.value;
+    next
+}
+
+fn failing(r: Replica) -> Replica
+    ensures { λ s. ⌜ stateOf s ≡ withStore (fail (stateOf r .store)) (stateOf r) ⌝ }
+{
+    let mut next = r;
+    next.variables[0] = 1;
+    next
+}
+
+// The batch of a group with its least timestamp.
+pub(crate) fn handle_batch(r: Replica, group: u8, t: Timestamp, output: &mut [u8], count: usize) -> Progress
+    requires { ⌜ t ≡ groupTimestamp group (waiting r) ⌝ }
+    requires { ⌜ count ≤ 1000000000 ⌝ }
+    ensures state { λ p. ⌜ stateOf (p .replica) ≡ handleBatch group (stateOf r) .state ⌝ }
+    ensures count { λ p. ⌜ p .count ≡ count + length (handleBatch group (stateOf r) .sent) ⌝ }
+    ensures more { λ p. ⌜ p .count ≤ count + 320 ⌝ }
+    ensures output { λ p. ⌜ now (output .exit) ≡ writeAt (r .k) (r .groups) count (handleBatch group (stateOf r) .sent) (now (output .entry)) ⌝ }
+{
+    let rest = take_off(r, group, t);
+    if all_reads(r, group, t) {
+        let sent = send_replies(r, group, t, output, count);
+        return Progress {
+            replica: rest,
+            count: sent,
+        };
+    }
+    if !may_change(r, group) {
+        return Progress {
+            replica: rest,
+            count,
+        };
+    }
+    let first = first_of(r, group, t);
+    if is_unanimous(r, group, t, first) {
+        return Progress {
+            replica: performed(rest, first),
+            count,
+        };
+    }
+    let sent = send_halts(r, group, t, output, count);
+    Progress {
+        replica: failing(rest),
+        count: sent,
+    }
+}

@@ -1,0 +1,111 @@
+// The messages of a step, each written through the part of the output that begins where the last
+// ended. `count` is how many were written before.
+ghost use mathlib.Core.Path.{_≡_};
+ghost use Prim.Native.Nat.{_+_, _≤_};
+ghost use mathlib.Core.List.{[], _∷_, map};
+ghost use lib.ListN.{length, getD};
+ghost use Rattle.rules.specs.Batch.{replyTo, haltTo, haltAll};
+ghost use Rattle.replica.specs.State.{waiting, stateOf};
+ghost use Rattle.replica.specs.Head.{batchAt};
+ghost use Rattle.replica.specs.Output.{writeAt};
+use crate::pending::in_batch;
+use crate::state::Replica;
+use crate::state::pending_count;
+use record::Message;
+use record::Request;
+use record::Timestamp;
+
+const REPLY: u8 = 3;
+const HALT: u8 = 4;
+
+// Writes a message behind the first `count`, where there is room.
+fn put(k: u8, n: u8, m: Message, output: &mut [u8], count: usize)
+    ensures { λ _. ⌜ now (output .exit) ≡ writeAt k n count (m ∷ []) (now (output .entry)) ⌝ }
+{
+    if count < output.len() / 24 {
+        let at = count * 24;
+        record::write_message(k, n, m, &mut output[at..]);
+    }
+}
+
+fn value_of(r: Replica, variable: u16) -> u32
+    ensures { λ x. ⌜ x ≡ getD (r .variables) variable 0 ⌝ }
+{
+    let i = variable as usize;
+    if 256 <= i {
+        return 0;
+    }
+    r.variables[i]
+}
+
+fn reply_to(r: Replica, q: Request) -> Message
+    ensures { λ m. ⌜ m ≡ replyTo (stateOf r .store) (r .number) q ⌝ }
+{
+    let timestamp = q.timestamp;
+    Message {
+        kind: REPLY,
+        group: q.group,
+        process: q.process,
+        replica: r.number,
+        variable: q.variable,
+        timestamp,
+        value: value_of(r, q.variable),
+    }
+}
+
+fn halt_to(group: u8, replica: u8, t: Timestamp, process: u8) -> Message
+    ensures { λ m. ⌜ m ≡ haltTo group replica t process ⌝ }
+{
+    Message {
+        kind: HALT,
+        group,
+        process,
+        replica,
+        variable: 0,
+        timestamp: t,
+        value: 0,
+    }
+}
+
+// Answers each read of the batch, in order of arrival, and gives the new count.
+pub(crate) fn send_replies(r: Replica, group: u8, t: Timestamp, output: &mut [u8], count: usize) -> usize
+    requires { ⌜ count ≤ 1000000000 ⌝ }
+    ensures count { λ c. ⌜ c ≡ count + length (batchAt group t (waiting r)) ⌝ }
+    ensures output { λ c. ⌜ now (output .exit) ≡ writeAt (r .k) (r .groups) count (map (replyTo (stateOf r .store) (r .number)) (batchAt group t (waiting r))) (now (output .entry)) ⌝ }
+{
+    let n = pending_count(r);
+    let mut next = count;
+    let mut i: usize = 0;
+    while i < n {
+        let p = r.pending[i];
+        if in_batch(group, t, p) {
+            let q = p.request;
+            put(r.k, r.groups, reply_to(r, q), output, next);
+            next += 1;
+        }
+        i += 1;
+    }
+    next
+}
+
+// Halts the processes 1 to k + 1 of a group, ascending, and gives the new count. Where k is no
+// unit's, no record is written, as `write_message` says.
+pub(crate) fn send_halts(r: Replica, group: u8, t: Timestamp, output: &mut [u8], count: usize) -> usize
+    requires { ⌜ count ≤ 1000000000 ⌝ }
+    ensures count { λ c. ⌜ c ≡ count + length (haltAll (r .k) group (r .number) t) ⌝ }
+    ensures output { λ c. ⌜ now (output .exit) ≡ writeAt (r .k) (r .groups) count (haltAll (r .k) group (r .number) t) (now (output .entry)) ⌝ }
+{
+    let k = r.k;
+    if 3 < k {
+        return count + k as usize + 1;
+    }
+    let last = k + 1;
+    let mut next = count;
+    let mut process: u8 = 0;
+    while process < last {
+        process += 1;
+        put(k, r.groups, halt_to(group, r.number, t, process), output, next);
+        next += 1;
+    }
+    next
+}

@@ -1,0 +1,89 @@
+// What a batch is: all reads, or a unanimous write.
+ghost use mathlib.Core.Path.{_≡_};
+ghost use Rattle.rules.specs.Batch.{isRead, isWrite, sameWrite, allReads, unanimous};
+ghost use Rattle.replica.specs.State.{waiting, blankRequest};
+ghost use Rattle.replica.specs.Head.{inBatch, batchAt, firstOf};
+use crate::pending::in_batch;
+use crate::state::Replica;
+use crate::state::pending_count;
+use record::LocalTime;
+use record::Request;
+use record::Timestamp;
+use rules::Pending;
+
+const READ: u8 = 1;
+const WRITE: u8 = 2;
+
+pub(crate) fn all_reads(r: Replica, group: u8, t: Timestamp) -> bool
+    ensures { λ b. ⌜ b ≡ allReads (batchAt group t (waiting r)) ⌝ }
+{
+    let n = pending_count(r);
+    let mut all = true;
+    let mut i: usize = 0;
+    while i < n {
+        let p = r.pending[i];
+        let request = p.request;
+        all = all & (!in_batch(group, t, p) | (request.kind == READ));
+        i += 1;
+    }
+    all
+}
+
+// The first request of the batch, or a blank one.
+pub(crate) fn first_of(r: Replica, group: u8, t: Timestamp) -> Request
+    ensures { λ q. ⌜ q ≡ firstOf (batchAt group t (waiting r)) ⌝ }
+{
+    let n = pending_count(r);
+    let mut i: usize = 0;
+    while i < n {
+        let p = r.pending[i];
+        if in_batch(group, t, p) {
+            return p.request;
+        }
+        i += 1;
+    }
+    Request {
+        kind: 0,
+        group: 0,
+        process: 0,
+        variable: 0,
+        timestamp: Timestamp(0),
+        value: 0,
+    }
+}
+
+// A write equal to the first one.
+fn agrees(first: Request, q: Request) -> bool
+    ensures { λ b. ⌜ b ≡ isWrite q && sameWrite first q ⌝ }
+{
+    (q.kind == WRITE) & ((first.variable == q.variable) & (first.value == q.value))
+}
+
+fn one_if(b: bool) -> usize
+    ensures { λ n. ⌜ n ≡ cond b 1 0 ⌝ }
+{
+    if b { 1 } else { 0 }
+}
+
+// Exactly k + 1 requests, all writes, all from different processes, equal in variable and value.
+pub(crate) fn is_unanimous(r: Replica, group: u8, t: Timestamp, first: Request) -> bool
+    requires { ⌜ first ≡ firstOf (batchAt group t (waiting r)) ⌝ }
+    ensures { λ b. ⌜ b ≡ unanimous (r .k) (batchAt group t (waiting r)) ⌝ }
+{
+    let n = pending_count(r);
+    let mut seen = [false; 256];
+    let mut size: usize = 0;
+    let mut same = true;
+    let mut i: usize = 0;
+    while i < n {
+        let p = r.pending[i];
+        let q = p.request;
+        let mine = in_batch(group, t, p);
+        let sender = q.process as usize;
+        same = same & (!mine | (agrees(first, q) & !seen[sender]));
+        seen[sender] = seen[sender] | mine;
+        size += one_if(mine);
+        i += 1;
+    }
+    same & (size == r.k as usize + 1)
+}
