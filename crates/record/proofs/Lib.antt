@@ -3,3 +3,4 @@ pub mod Numbers
 pub mod Layouts
 pub mod Families
 pub mod Record
+pub mod Trip
