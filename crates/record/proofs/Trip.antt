@@ -24,7 +24,7 @@ use Rattle.record.proofs.Record.{Readable, Writable, read-given, read-r
 same-given : {A : Type 0} {a b : A} → given a ≡ given b → a ≡ b
 same-given e = cc
 
-module _ {A : Type 0} (k n : ℕ) (questions : Fields → List Question) (seen : Fields → A) (into : A → Fields) where
+module _ {A : Type 0} (k n : ℕ) (questions : Fields → List Question) (seen : Fields → A) where
   -- what is written is read back, where the fields that are let through are in range
   read-written : (f : Fields) (destination bytes : List ℕ) → (AllYes (unitQuestions k n) → AllYes (questions f) → InRange f) → writeWith k n questions f destination ≡ given bytes → readWith k n questions seen (take 24 bytes) ≡ given (seen f)
   read-written f destination bytes ranges e =
@@ -35,7 +35,8 @@ module _ {A : Type 0} (k n : ℕ) (questions : Fields → List Question) (seen :
       let readable : Readable k n questions (bytesOf f) = record { unit = asked .unit; long = length-bytes-of f; fields = rw back (asked .fields) } in
       rw same (read-given k n questions seen readable ∙ ap (λ (g : Fields). given (seen g)) back)
 
-  module _ (whole : (f : Fields) → AllYes (questions f) → into (seen f) ≡ f) where
+  -- what is seen of fields that are let through is all of them
+  module _ (into : A → Fields) (whole : (f : Fields) → AllYes (questions f) → into (seen f) ≡ f) where
     fields-read : (bytes : List ℕ) (a : A) → readWith k n questions seen bytes ≡ given a → into a ≡ fieldsOf bytes
     fields-read bytes a e =
         let asked = read-readable k n questions seen bytes e in
@@ -114,7 +115,7 @@ request-whole k n f asked =
 -- A written request is read back. The two ranges are those of u64 and u32; all others follow from the questions.
 pub read-written-request : (k n : ℕ) (r : Request) (d b : List ℕ) → r .timestamp .0 < 256 ^ 8 → r .value < 256 ^ 4 → writeRequest k n r d ≡ given b → readRequest k n (take 24 b) ≡ given r
 read-written-request k n r d b timestamp value e =
-    read-written k n (requestQuestions k n) requestIn requestFields (requestFields r) d b (request-in-range k n r timestamp value) e
+    read-written k n (requestQuestions k n) requestIn (requestFields r) d b (request-in-range k n r timestamp value) e
 
 -- Bytes read as a request are what is written of it.
 pub written-read-request : (k n : ℕ) (s d : List ℕ) (r : Request) → Bytes s → readRequest k n s ≡ given r → 24 ≤ length d → writeRequest k n r d ≡ given (s ++ drop 24 d)
@@ -149,7 +150,7 @@ message-whole k n f asked =
 -- A written message is read back. The two ranges are those of u64 and u32; all others follow from the questions.
 pub read-written-message : (k n : ℕ) (m : Message) (d b : List ℕ) → m .timestamp .0 < 256 ^ 8 → m .value < 256 ^ 4 → writeMessage k n m d ≡ given b → readMessage k n (take 24 b) ≡ given m
 read-written-message k n m d b timestamp value e =
-    read-written k n (messageQuestions k n) messageIn messageFields (messageFields m) d b (message-in-range k n m timestamp value) e
+    read-written k n (messageQuestions k n) messageIn (messageFields m) d b (message-in-range k n m timestamp value) e
 
 -- Bytes read as a message are what is written of it.
 pub written-read-message : (k n : ℕ) (s d : List ℕ) (m : Message) → Bytes s → readMessage k n s ≡ given m → 24 ≤ length d → writeMessage k n m d ≡ given (s ++ drop 24 d)

@@ -7,15 +7,10 @@ use Rattle.record.specs.Record.{write, halt}
 use borrow.Author.Needs.{needs}
 use Rattle.record.proofs.kind.allows_variable.Statement.{statement}
 use Rattle.record.proofs.kind.allows_variable.Tie as tie
-use Rattle.record.proofs.kind.allows_variable.Reads as reads
-use Rattle.record.proofs.kind.allows_variable.Lts as lts
-use Rattle.record.proofs.question.is_within.Reads as is-within-reads
 
--- src/kind.rt:55:5
 is-within-requires : tie.Need-is-within-requires
 is-within-requires c κs = search needs
 
--- src/kind.rt:50:1
 low-is : (c : tie.Joined1) → c .if1 .low ≡ cond (eqb (c .before .args .kind) write) 1 0
 low-is c = ⊎-elim (λ w. rw (eq-eqb _ _ (w .0 .taken)) (w .1)) (λ w. rw (ne-eqb _ _ (w .0 .left)) (w .1)) (c .if1 .came)
 

@@ -2,35 +2,25 @@ use Rattle.record.proofs.Families.{messages-family}
 use borrow.Author.Needs.{needs}
 use Rattle.record.proofs.kind.is_message.Statement.{statement}
 use Rattle.record.proofs.kind.is_message.Tie as tie
-use Rattle.record.proofs.kind.is_message.Reads as reads
-use Rattle.record.proofs.kind.is_message.Lts as lts
-use Rattle.record.proofs.kind.family_of.Reads as family-of-reads
 
--- src/kind.rt:43:11
 family-of-requires : tie.Need-family-of-requires
 family-of-requires c κs = search needs
 
--- src/kind.rt:44:29
 enum-told : tie.Need-enum-told
 enum-told c = search needs
 
--- src/kind.rt:45:29
 enum-told-2 : tie.Need-enum-told-2
 enum-told-2 c = search needs
 
--- src/kind.rt:46:28
 enum-told-3 : tie.Need-enum-told-3
 enum-told-3 c = search needs
 
--- src/kind.rt:40:1
 returns : tie.Need-returns
 returns c = rw (← messages-family (c .before .before .before .args .kind), ← c .before .before .family-of .ensures, c .enum-told .given .1)
 
--- src/kind.rt:40:1
 returns-2 : tie.Need-returns-2
 returns-2 c = rw (← messages-family (c .before .before .before .args .kind), ← c .before .before .family-of .ensures, c .enum-told2 .given .1)
 
--- src/kind.rt:40:1
 returns-3 : tie.Need-returns-3
 returns-3 c = rw (← messages-family (c .before .before .before .args .kind), ← c .before .before .family-of .ensures, c .enum-told3 .given .1)
 

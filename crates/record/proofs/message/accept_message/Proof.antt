@@ -4,38 +4,28 @@ use Rattle.record.proofs.Questions.{next-asked}
 use borrow.Author.Needs.{needs}
 use Rattle.record.proofs.message.accept_message.Statement.{statement}
 use Rattle.record.proofs.message.accept_message.Tie as tie
-use Rattle.record.proofs.message.accept_message.Reads as reads
-use Rattle.record.proofs.message.accept_message.Lts as lts
-use Rattle.record.proofs.message.check_message.Reads as check-message-reads
-use Rattle.record.proofs.message.message_in.Reads as message-in-reads
 
--- src/message.rt:86:11
 check-message-requires : tie.Need-check-message-requires
 check-message-requires c κs = search needs
 
--- src/message.rt:87:48
 enum-told : tie.Need-enum-told
 enum-told c = search needs
 
--- src/message.rt:87:48
 message-in-requires : tie.Need-message-in-requires
 message-in-requires c κs = search needs
 
--- src/message.rt:88:26
 enum-known-number : tie.Need-enum-known-number
 enum-known-number c = search needs
 
--- src/message.rt:83:1
 returns : tie.Need-returns
-returns c = 
+returns c =
     let a = c .before .before .before .before .args in
     let o = c .before .before .before .check-message in
     rw (c .message-in .ensures)
     (rw (c .before .enum-told .given .1) at (next-asked (messageQuestions (a .k) (a .n) (a .f)) (given (messageIn (a .f))) (outcome (o .result)) (o .ensures)))
 
--- src/message.rt:83:1
 returns-2 : tie.Need-returns-2
-returns-2 c = 
+returns-2 c =
     let a = c .before .before .before .before .args in
     let o = c .before .before .before .check-message in
     rw (c .before .number .given .1) at (next-asked (messageQuestions (a .k) (a .n) (a .f)) (given (messageIn (a .f))) (outcome (o .result)) (o .ensures))

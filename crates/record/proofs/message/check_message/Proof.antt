@@ -3,95 +3,67 @@ use Rattle.record.specs.Record.{messageQuestions}
 use borrow.Author.Needs.{needs}
 use Rattle.record.proofs.message.check_message.Statement.{statement}
 use Rattle.record.proofs.message.check_message.Tie as tie
-use Rattle.record.proofs.message.check_message.Reads as reads
-use Rattle.record.proofs.message.check_message.Lts as lts
-use Rattle.record.proofs.kind.allows_value.Reads as allows-value-reads
-use Rattle.record.proofs.kind.allows_variable.Reads as allows-variable-reads
-use Rattle.record.proofs.kind.is_message.Reads as is-message-reads
-use Rattle.record.proofs.kind.spares_zero.Reads as spares-zero-reads
-use Rattle.record.proofs.question.ask.Reads as ask-reads
-use Rattle.record.proofs.question.is_within.Reads as is-within-reads
 
--- src/message.rt:73:16
 spares-zero-requires : tie.Need-spares-zero-requires
 spares-zero-requires c κs = search needs
 
--- src/message.rt:73:33
 allows-value-requires : tie.Need-allows-value-requires
 allows-value-requires c κs = search needs
 
--- src/message.rt:74:9
 ask-requires : tie.Need-ask-requires
 ask-requires c κs = search needs
 
--- src/message.rt:75:19
 allows-variable-requires : tie.Need-allows-variable-requires
 allows-variable-requires c κs = search needs
 
--- src/message.rt:75:9
 ask-requires-2 : tie.Need-ask-requires-2
 ask-requires-2 c κs = search needs
 
--- src/message.rt:76:31
 mul-is-within : tie.Need-mul-is-within
 mul-is-within c = search needs
 
--- src/message.rt:76:31
 add-is-within : tie.Need-add-is-within
 add-is-within c = search needs
 
--- src/message.rt:76:49
 cast-is-within : tie.Need-cast-is-within
 cast-is-within c = search needs
 
--- src/message.rt:76:18
 is-within-requires : tie.Need-is-within-requires
 is-within-requires c κs = search needs
 
--- src/message.rt:76:9
 ask-requires-3 : tie.Need-ask-requires-3
 ask-requires-3 c κs = search needs
 
--- src/message.rt:77:31
 add-is-within-2 : tie.Need-add-is-within-2
 add-is-within-2 c = search needs
 
--- src/message.rt:77:45
 cast-is-within-2 : tie.Need-cast-is-within-2
 cast-is-within-2 c = search needs
 
--- src/message.rt:77:18
 is-within-requires-2 : tie.Need-is-within-requires-2
 is-within-requires-2 c κs = search needs
 
--- src/message.rt:77:9
 ask-requires-4 : tie.Need-ask-requires-4
 ask-requires-4 c κs = search needs
 
--- src/message.rt:78:41
 cast-is-within-3 : tie.Need-cast-is-within-3
 cast-is-within-3 c = search needs
 
--- src/message.rt:78:18
 is-within-requires-3 : tie.Need-is-within-requires-3
 is-within-requires-3 c κs = search needs
 
--- src/message.rt:78:9
 ask-requires-5 : tie.Need-ask-requires-5
 ask-requires-5 c κs = search needs
 
--- src/message.rt:79:9
 is-message-requires : tie.Need-is-message-requires
 is-message-requires c κs = search needs
 
--- src/message.rt:79:5
 ask-requires-6 : tie.Need-ask-requires-6
 ask-requires-6 c κs = search needs
 
--- src/message.rt:70:1
 returns : tie.Need-returns
 unfolding ask messageQuestions
-returns c = 
+returns c =
     rw (
       c .ask6 .ensures,
       c .before .is-message .ensures,

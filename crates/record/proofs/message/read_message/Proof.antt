@@ -5,46 +5,34 @@ use Rattle.record.proofs.Record.{read-length, read-next}
 use borrow.Author.Needs.{needs}
 use Rattle.record.proofs.message.read_message.Statement.{statement}
 use Rattle.record.proofs.message.read_message.Tie as tie
-use Rattle.record.proofs.message.read_message.Reads as reads
-use Rattle.record.proofs.message.read_message.Lts as lts
-use Rattle.record.proofs.fields.fields_of.Reads as fields-of-reads
-use Rattle.record.proofs.message.accept_message.Reads as accept-message-reads
-use Rattle.record.proofs.question.check_length.Reads as check-length-reads
 
--- src/message.rt:95:11
 check-length-requires : tie.Need-check-length-requires
 check-length-requires c κs = search needs
 
--- src/message.rt:96:47
 enum-told : tie.Need-enum-told
 enum-told c = search needs
 
--- src/message.rt:96:47
 fields-of-requires : tie.Need-fields-of-requires
-fields-of-requires c κs = 
+fields-of-requires c κs =
     let a = c .before .before .before .before .args in
     let o = c .before .before .check-length in
     read-length (a .k) (a .n) (a .bytes .now) (given worked) (sym (o .ensures) ∙ ap outcome (c .enum-told .given .1))
 
--- src/message.rt:96:26
 accept-message-requires : tie.Need-accept-message-requires
 accept-message-requires c κs = search needs
 
--- src/message.rt:97:26
 enum-known-number : tie.Need-enum-known-number
 enum-known-number c = search needs
 
--- src/message.rt:92:1
 returns : tie.Need-returns
-returns c = 
+returns c =
     let a = c .before .before .before .before .before .before .args in
     let o = c .before .before .before .before .check-length in
     rw (c .accept-message .ensures, c .before .fields-of .ensures)
     (rw (c .before .before .enum-told .given .1) at (read-next (a .k) (a .n) (messageQuestions (a .k) (a .n)) messageIn (a .bytes .now) (outcome (o .result)) (o .ensures)))
 
--- src/message.rt:92:1
 returns-2 : tie.Need-returns-2
-returns-2 c = 
+returns-2 c =
     let a = c .before .before .before .before .before .args in
     let o = c .before .before .before .check-length in
     rw (c .before .number .given .1) at (read-next (a .k) (a .n) (messageQuestions (a .k) (a .n)) messageIn (a .bytes .now) (outcome (o .result)) (o .ensures))

@@ -3,18 +3,13 @@ use Rattle.record.specs.Number.{digits}
 use borrow.Author.Needs.{needs}
 use Rattle.record.proofs.number.digits2.Statement.{statement}
 use Rattle.record.proofs.number.digits2.Tie as tie
-use Rattle.record.proofs.number.digits2.Reads as reads
-use Rattle.record.proofs.number.digits2.Lts as lts
 
--- src/number.rt:32:13
 cast-a : tie.Need-cast-a
 cast-a c = search needs
 
--- src/number.rt:33:13
 cast-b : tie.Need-cast-b
 cast-b c = search needs
 
--- src/number.rt:29:1
 returns : tie.Need-returns
 unfolding digits
 returns c = simp (pow-zero, div-one)

@@ -65,7 +65,7 @@ loop-again c =
       (
         rw (add-one i, take-suc part i 0 here, number-snoc, getD-drop (a .at) (a .bytes .now) i 0) (cc),
         rw (add-one i, pow-suc 256 i)
-        (omega (arith, c .wide .ensures, c .before .shared-slice-known2 .given (a .at + i))),
+            (omega (arith, c .wide .ensures, c .before .shared-slice-known2 .given (a .at + i))),
       ),
     )
 

@@ -1,15 +1,11 @@
 use Rattle.record.specs.Question.{ask}
 use Rattle.record.proofs.question.ask.Statement.{statement}
 use Rattle.record.proofs.question.ask.Tie as tie
-use Rattle.record.proofs.question.ask.Reads as reads
-use Rattle.record.proofs.question.ask.Lts as lts
 
--- src/question.rt:14:1
 returns : tie.Need-returns
 unfolding ask
 returns c = rw (c .if1 .taken)
 
--- src/question.rt:14:1
 returns-2 : tie.Need-returns-2
 unfolding ask
 returns-2 c = rw (c .if1 .left)

@@ -4,38 +4,28 @@ use Rattle.record.proofs.Questions.{next-asked}
 use borrow.Author.Needs.{needs}
 use Rattle.record.proofs.request.accept_request.Statement.{statement}
 use Rattle.record.proofs.request.accept_request.Tie as tie
-use Rattle.record.proofs.request.accept_request.Reads as reads
-use Rattle.record.proofs.request.accept_request.Lts as lts
-use Rattle.record.proofs.request.check_request.Reads as check-request-reads
-use Rattle.record.proofs.request.request_in.Reads as request-in-reads
 
--- src/request.rt:82:11
 check-request-requires : tie.Need-check-request-requires
 check-request-requires c κs = search needs
 
--- src/request.rt:83:48
 enum-told : tie.Need-enum-told
 enum-told c = search needs
 
--- src/request.rt:83:48
 request-in-requires : tie.Need-request-in-requires
 request-in-requires c κs = search needs
 
--- src/request.rt:84:26
 enum-known-number : tie.Need-enum-known-number
 enum-known-number c = search needs
 
--- src/request.rt:79:1
 returns : tie.Need-returns
-returns c = 
+returns c =
     let a = c .before .before .before .before .args in
     let o = c .before .before .before .check-request in
     rw (c .request-in .ensures)
     (rw (c .before .enum-told .given .1) at (next-asked (requestQuestions (a .k) (a .n) (a .f)) (given (requestIn (a .f))) (outcome (o .result)) (o .ensures)))
 
--- src/request.rt:79:1
 returns-2 : tie.Need-returns-2
-returns-2 c = 
+returns-2 c =
     let a = c .before .before .before .before .args in
     let o = c .before .before .before .check-request in
     rw (c .before .number .given .1) at (next-asked (requestQuestions (a .k) (a .n) (a .f)) (given (requestIn (a .f))) (outcome (o .result)) (o .ensures))

@@ -8,15 +8,7 @@ use Rattle.record.proofs.Record.{write-next, write-verdict, write-room}
 use borrow.Author.Needs.{needs}
 use Rattle.record.proofs.request.write_request.Statement.{statement}
 use Rattle.record.proofs.request.write_request.Tie as tie
-use Rattle.record.proofs.request.write_request.Reads as reads
-use Rattle.record.proofs.request.write_request.Lts as lts
-use Rattle.record.proofs.fields.put_unless_refused.Reads as put-unless-refused-reads
-use Rattle.record.proofs.question.check_room.Reads as check-room-reads
-use Rattle.record.proofs.question.check_unit.Reads as check-unit-reads
-use Rattle.record.proofs.request.check_request.Reads as check-request-reads
-use Rattle.record.proofs.request.request_fields.Reads as request-fields-reads
 
--- src/request.rt:102:9
 -- the questions of writing, asked by themselves
 asked : (c : tie.After-check-unit) →
     let a = c .before .before .before .before .before .args in
@@ -32,36 +24,29 @@ asked c =
 request-fields-requires : tie.Need-request-fields-requires
 request-fields-requires c κs = search needs
 
--- src/request.rt:103:9
 check-room-requires : tie.Need-check-room-requires
 check-room-requires c κs = search needs
 
--- src/request.rt:104:30
 check-request-requires : tie.Need-check-request-requires
 check-request-requires c κs = search needs
 
--- src/request.rt:104:9
 check-unit-requires : tie.Need-check-unit-requires
 check-unit-requires c κs = search needs
 
--- src/request.rt:105:5
 put-unless-refused-requires : tie.Need-put-unless-refused-requires
-put-unless-refused-requires c κs = 
+put-unless-refused-requires c κs =
     let a = c .before .before .before .before .before .before .args in
     λ e. write-room (a .k) (a .n) (requestQuestions (a .k) (a .n) (requestFields (a .r))) (a .destination .now) (given worked) (sym (asked (c .before)) ∙ e)
 
--- src/request.rt:98:1
 same-length : tie.Need-same-length
 same-length c = search needs
 
--- src/request.rt:98:1
 returns : tie.Need-returns
-returns c = 
+returns c =
     let a = c .before .before .before .before .before .before .before .before .before .args in
     let o = c .before .before .before .before in
     let questions = requestQuestions (a .k) (a .n) in
-    let fields = requestFields (a .r) in
-    (
+    let fields = requestFields (a .r) in (
       write-verdict (a .k) (a .n) questions fields (a .destination .now) (outcome (o .check-unit .result)) (asked o),
       rw (
         c .before .before .put-unless-refused .ensures,
