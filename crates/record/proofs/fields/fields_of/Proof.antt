@@ -1,5 +1,6 @@
-use Rattle.record.specs.Layout.{fieldsOf}
+-- Each field is the number at its place.
 use borrow.Author.Needs.{needs}
+use Rattle.record.specs.Layout.{fieldsOf}
 use Rattle.record.proofs.fields.fields_of.Statement.{statement}
 use Rattle.record.proofs.fields.fields_of.Tie as tie
 

@@ -1,6 +1,7 @@
+-- Only a call that is not refused writes, and its questions asked for the room.
 use mathlib.Core.Path.{ap}
-use Rattle.record.specs.Question.{outcome}
 use borrow.Author.Needs.{needs}
+use Rattle.record.specs.Question.{outcome}
 use Rattle.record.proofs.fields.put_unless_refused.Statement.{statement}
 use Rattle.record.proofs.fields.put_unless_refused.Tie as tie
 

@@ -1,5 +1,6 @@
-use Rattle.record.specs.Question.{ask, unitQuestions}
+-- Each call puts one question in front of what was asked before.
 use borrow.Author.Needs.{needs}
+use Rattle.record.specs.Question.{ask, unitQuestions}
 use Rattle.record.proofs.question.check_unit.Statement.{statement}
 use Rattle.record.proofs.question.check_unit.Tie as tie
 

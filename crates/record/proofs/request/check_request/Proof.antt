@@ -1,6 +1,7 @@
+-- Each call puts one question in front of what was asked before: the last call comes first.
+use borrow.Author.Needs.{needs}
 use Rattle.record.specs.Question.{ask}
 use Rattle.record.specs.Record.{requestQuestions}
-use borrow.Author.Needs.{needs}
 use Rattle.record.proofs.request.check_request.Statement.{statement}
 use Rattle.record.proofs.request.check_request.Tie as tie
 

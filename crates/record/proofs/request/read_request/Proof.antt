@@ -1,10 +1,23 @@
-use mathlib.Core.Path.{sym, ap, _∙_}
-use Rattle.record.specs.Question.{given, worked, outcome}
-use Rattle.record.specs.Record.{requestQuestions, requestIn}
-use Rattle.record.proofs.Record.{read-length, read-next}
+-- The first questions are asked by themselves: on a yes, the fields are read and asked.
+use mathlib.Core.Path.{_≡_, sym, ap, _∙_}
 use borrow.Author.Needs.{needs}
+use Rattle.record.specs.Question.{given, worked, ask, next, outcome}
+use Rattle.record.specs.Layout.{fieldsOf}
+use Rattle.record.specs.Record.{requestQuestions, requestIn, readRequest}
+use Rattle.record.proofs.Record.{read-length, read-next}
 use Rattle.record.proofs.request.read_request.Statement.{statement}
 use Rattle.record.proofs.request.read_request.Tie as tie
+
+-- questions 1, 2 and 6, asked first, decide the answer
+decided : (c : tie.After-check-length) →
+    let a = c .before .before .args in
+    let f = fieldsOf (a .bytes .now) in
+    next (outcome (c .check-length .result)) (ask (requestQuestions (a .k) (a .n) f) (given (requestIn f)))
+    ≡ readRequest (a .k) (a .n) (a .bytes .now)
+decided c =
+    let a = c .before .before .args in
+    let o = c .check-length in
+    read-next (a .k) (a .n) (requestQuestions (a .k) (a .n)) requestIn (a .bytes .now) (outcome (o .result)) (o .ensures)
 
 check-length-requires : tie.Need-check-length-requires
 check-length-requires c κs = search needs
@@ -15,8 +28,8 @@ enum-told c = search needs
 fields-of-requires : tie.Need-fields-of-requires
 fields-of-requires c κs =
     let a = c .before .before .before .before .args in
-    let o = c .before .before .check-length in
-    read-length (a .k) (a .n) (a .bytes .now) (given worked) (sym (o .ensures) ∙ ap outcome (c .enum-told .given .1))
+    let done = sym (c .before .before .check-length .ensures) ∙ ap outcome (c .enum-told .given .1) in
+    read-length (a .k) (a .n) (a .bytes .now) (given worked) done
 
 accept-request-requires : tie.Need-accept-request-requires
 accept-request-requires c κs = search needs
@@ -26,16 +39,11 @@ enum-known-number c = search needs
 
 returns : tie.Need-returns
 returns c =
-    let a = c .before .before .before .before .before .before .args in
-    let o = c .before .before .before .before .check-length in
     rw (c .accept-request .ensures, c .before .fields-of .ensures)
-    (rw (c .before .before .enum-told .given .1) at (read-next (a .k) (a .n) (requestQuestions (a .k) (a .n)) requestIn (a .bytes .now) (outcome (o .result)) (o .ensures)))
+    (rw (c .before .before .enum-told .given .1) at (decided (c .before .before .before .before)))
 
 returns-2 : tie.Need-returns-2
-returns-2 c =
-    let a = c .before .before .before .before .before .args in
-    let o = c .before .before .before .check-length in
-    rw (c .before .number .given .1) at (read-next (a .k) (a .n) (requestQuestions (a .k) (a .n)) requestIn (a .bytes .now) (outcome (o .result)) (o .ensures))
+returns-2 c = rw (c .before .number .given .1) at (decided (c .before .before .before))
 
 pub read-request-spec : {M : Type 1} → statement M
 read-request-spec =
