@@ -1,6 +1,6 @@
 // What a call answered, as text.
+use question::Outcome;
 use record::Message;
-use record::Outcome;
 use record::Request;
 
 pub(crate) fn number(n: u64) {

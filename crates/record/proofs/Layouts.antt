@@ -1,11 +1,11 @@
 -- The 24 bytes and the fields say the same, each the only form of the other. Assumes nothing.
-use Prim.Native.Nat.{ℕ, _+_, _^_, _≤_, _<_}
+use Prim.Native.Nat.{ℕ, _+_, _^_, _<_}
 use mathlib.Core.Path.{_≡_, refl, sym, ap, _∙_}
 use mathlib.Core.List.{List, _++_}
 use lib.ListN.{length, take, drop, length-drop, take-append-drop}
 use lib.Seq.{drop-drop, take-all}
 use native.Mathlib.Omega.{arith}
-use Rattle.record.specs.Number.{Bytes, number, digits}
+use Rattle.record.specs.Number.{Bytes, digits}
 use Rattle.record.specs.Layout.{fieldsOf, bytesOf}
 use Rattle.record.specs.declared.fields.Fields.{Fields}
 use Rattle.record.proofs.Numbers.{number-digits, digits-part}

@@ -4,7 +4,7 @@ use mathlib.Core.Bool.{Bool, cond, _&&_, _||_}
 use mathlib.Core.List.{List, [], _∷_, _++_}
 use lib.Dec.{eqb, leb}
 use lib.ListN.{length, drop}
-use Rattle.record.specs.Question.{Question, _else_, Answer, given, refused, ask, within, unitQuestions}
+use Rattle.question.specs.Question.{Question, _else_, Answer, given, refused, ask, within, unitQuestions}
 use Rattle.record.specs.Layout.{fieldsOf, bytesOf}
 use Rattle.record.specs.declared.fields.Fields.{Fields}
 use Rattle.record.specs.declared.kind.Family.{Family}

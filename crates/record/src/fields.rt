@@ -4,13 +4,13 @@ ghost use lib.ListN.{length, drop};
 ghost use mathlib.Core.List.{_++_};
 ghost use Prim.Native.Nat.{_≤_};
 ghost use Rattle.record.specs.Layout.{fieldsOf, bytesOf};
-ghost use Rattle.record.specs.Question.{given, worked, next, after, outcome};
+ghost use Rattle.question.specs.Question.{given, worked, next, after, outcome};
 use crate::clock::Timestamp;
 use crate::number::digits2;
 use crate::number::digits4;
 use crate::number::digits8;
 use crate::number::number_at;
-use crate::question::Outcome;
+use question::Outcome;
 
 pub struct Fields {
     pub kind: u8,

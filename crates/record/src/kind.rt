@@ -1,9 +1,9 @@
 // What the kind of a record decides: its family, and the variable and value that it may carry.
 ghost use mathlib.Core.Path.{_≡_};
-ghost use Rattle.record.specs.Question.{within};
+ghost use Rattle.question.specs.Question.{within};
 ghost use Rattle.record.specs.Record.{read, write, reply, halt, familyOf, allowsVariable, allowsValue, sparesZero};
 use crate::fields::Fields;
-use crate::question::is_within;
+use question::is_within;
 
 pub(crate) const WRITE: u8 = 2;
 

@@ -1,6 +1,6 @@
 // Messages: a reply or a halt, from a replica to a process.
 ghost use mathlib.Core.Path.{_≡_};
-ghost use Rattle.record.specs.Question.{given, ask, after, verdict, outcome};
+ghost use Rattle.question.specs.Question.{given, ask, after, verdict, outcome};
 ghost use Rattle.record.specs.Record.{messageQuestions, messageIn, messageFields, messageAnswer, readMessage, writeMessage};
 use crate::clock::Timestamp;
 use crate::fields::Fields;
@@ -10,12 +10,12 @@ use crate::kind::allows_value;
 use crate::kind::allows_variable;
 use crate::kind::is_message;
 use crate::kind::spares_zero;
-use crate::question::Outcome;
-use crate::question::ask;
-use crate::question::check_length;
-use crate::question::check_room;
-use crate::question::check_unit;
-use crate::question::is_within;
+use crate::length::check_length;
+use crate::length::check_room;
+use question::Outcome;
+use question::ask;
+use question::check_unit;
+use question::is_within;
 
 pub struct Message {
     pub kind: u8,

@@ -1,6 +1,6 @@
 // Requests: a read or a write, from a process to the replicas.
 ghost use mathlib.Core.Path.{_≡_};
-ghost use Rattle.record.specs.Question.{given, ask, after, verdict, outcome};
+ghost use Rattle.question.specs.Question.{given, ask, after, verdict, outcome};
 ghost use Rattle.record.specs.Record.{requestQuestions, requestIn, requestFields, requestAnswer, readRequest, writeRequest};
 use crate::clock::Timestamp;
 use crate::fields::Fields;
@@ -10,12 +10,12 @@ use crate::kind::allows_value;
 use crate::kind::allows_variable;
 use crate::kind::is_request;
 use crate::kind::spares_zero;
-use crate::question::Outcome;
-use crate::question::ask;
-use crate::question::check_length;
-use crate::question::check_room;
-use crate::question::check_unit;
-use crate::question::is_within;
+use crate::length::check_length;
+use crate::length::check_room;
+use question::Outcome;
+use question::ask;
+use question::check_unit;
+use question::is_within;
 
 pub struct Request {
     pub kind: u8,

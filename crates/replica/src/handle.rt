@@ -65,7 +65,13 @@ fn failing(r: Replica) -> Replica
 }
 
 // The batch of a group with its least timestamp.
-pub(crate) fn handle_batch(r: Replica, group: u8, t: Timestamp, output: &mut [u8], count: usize) -> Progress
+pub(crate) fn handle_batch(
+    r: Replica,
+    group: u8,
+    t: Timestamp,
+    output: &mut [u8],
+    count: usize,
+) -> Progress
     requires { ⌜ t ≡ groupTimestamp group (waiting r) ⌝ }
     requires { ⌜ count ≤ 1000000000 ⌝ }
     ensures state { λ p. ⌜ stateOf (p .replica) ≡ handleBatch group (stateOf r) .state ⌝ }

@@ -22,7 +22,11 @@ pub struct Made {
 fn check_make(k: u8, n: u8, owner: u8, delta: u64, number: u8) -> Outcome
     ensures { λ o. ⌜ outcome o ≡ ask (makeQuestions (settings k n owner delta) number) (given worked) ⌝ }
 {
-    let q5 = ask(is_within(1, 2 * k as u64 + 1, number as u64), 5, Outcome::Done);
+    let q5 = ask(
+        is_within(1, 2 * k as u64 + 1, number as u64),
+        5,
+        Outcome::Done,
+    );
     let q4 = ask(delta <= 1000000, 4, q5);
     let q3 = ask(is_within(1, n as u64, owner as u64), 3, q4);
     let q2 = ask(is_within(1, 4, n as u64), 2, q3);

@@ -16,6 +16,7 @@ use record::Request;
 use record::Timestamp;
 
 const REPLY: u8 = 3;
+
 const HALT: u8 = 4;
 
 // Writes a message behind the first `count`, where there is room.
@@ -68,7 +69,13 @@ fn halt_to(group: u8, replica: u8, t: Timestamp, process: u8) -> Message
 }
 
 // Answers each read of the batch, in order of arrival, and gives the new count.
-pub(crate) fn send_replies(r: Replica, group: u8, t: Timestamp, output: &mut [u8], count: usize) -> usize
+pub(crate) fn send_replies(
+    r: Replica,
+    group: u8,
+    t: Timestamp,
+    output: &mut [u8],
+    count: usize,
+) -> usize
     requires { ⌜ count ≤ 1000000000 ⌝ }
     ensures count { λ c. ⌜ c ≡ count + length (batchAt group t (waiting r)) ⌝ }
     ensures output { λ c. ⌜ now (output .exit) ≡ writeAt (r .k) (r .groups) count (map (replyTo (stateOf r .store) (r .number)) (batchAt group t (waiting r))) (now (output .entry)) ⌝ }
@@ -90,7 +97,13 @@ pub(crate) fn send_replies(r: Replica, group: u8, t: Timestamp, output: &mut [u8
 
 // Halts the processes 1 to k + 1 of a group, ascending, and gives the new count. Where k is no
 // unit's, no record is written, as `write_message` says.
-pub(crate) fn send_halts(r: Replica, group: u8, t: Timestamp, output: &mut [u8], count: usize) -> usize
+pub(crate) fn send_halts(
+    r: Replica,
+    group: u8,
+    t: Timestamp,
+    output: &mut [u8],
+    count: usize,
+) -> usize
     requires { ⌜ count ≤ 1000000000 ⌝ }
     ensures count { λ c. ⌜ c ≡ count + length (haltAll (r .k) group (r .number) t) ⌝ }
     ensures output { λ c. ⌜ now (output .exit) ≡ writeAt (r .k) (r .groups) count (haltAll (r .k) group (r .number) t) (now (output .entry)) ⌝ }
@@ -104,7 +117,13 @@ pub(crate) fn send_halts(r: Replica, group: u8, t: Timestamp, output: &mut [u8],
     let mut process: u8 = 0;
     while process < last {
         process += 1;
-        put(k, r.groups, halt_to(group, r.number, t, process), output, next);
+        put(
+            k,
+            r.groups,
+            halt_to(group, r.number, t, process),
+            output,
+            next,
+        );
         next += 1;
     }
     next

@@ -12,6 +12,7 @@ use record::Timestamp;
 use rules::Pending;
 
 const READ: u8 = 1;
+
 const WRITE: u8 = 2;
 
 pub(crate) fn all_reads(r: Replica, group: u8, t: Timestamp) -> bool

@@ -5,3 +5,4 @@ pub mod Run
 pub mod Machine
 pub mod Vote
 pub mod Suppose
+pub mod Examples

@@ -4,7 +4,7 @@ use mathlib.Core.Bool.{Bool, true, false, cond, not, _&&_}
 use mathlib.Core.List.{List, [], _∷_, _++_, map}
 use lib.Dec.{eqb, leb, ltb}
 use lib.ListN.{length, take, drop}
-use Rattle.record.specs.Question.{Question, _else_, Answer, given, refused, ask, bind, after, within, unitQuestions}
+use Rattle.question.specs.Question.{Question, _else_, Answer, given, refused, ask, bind, after, within, unitQuestions}
 use Rattle.record.specs.Record.{readRequest, writeMessage}
 use Rattle.record.specs.declared.clock.Timestamp.{Timestamp}
 use Rattle.record.specs.declared.clock.LocalTime.{LocalTime}

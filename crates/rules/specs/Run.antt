@@ -4,7 +4,7 @@ use mathlib.Core.Bool.{cond}
 use mathlib.Core.List.{List, [], _∷_, _++_}
 use lib.Dec.{eqb}
 use lib.ListN.{take, drop}
-use Rattle.record.specs.Question.{Answer, given, refused, after}
+use Rattle.question.specs.Question.{Answer, given, refused, after}
 use Rattle.record.specs.Record.{readMessage}
 use Rattle.record.specs.declared.clock.LocalTime.{LocalTime}
 use Rattle.record.specs.declared.request.Request.{Request}

@@ -4,7 +4,7 @@ use mathlib.Core.Bool.{Bool, false, cond, _&&_}
 use mathlib.Core.List.{List, [], _∷_}
 use lib.Dec.{eqb, leb}
 use lib.ListN.{length}
-use Rattle.record.specs.Question.{_else_, Answer, given, refused, ask, allYes, unitQuestions}
+use Rattle.question.specs.Question.{_else_, Answer, given, refused, ask, allYes, unitQuestions}
 use Rattle.record.specs.Record.{reply, halt, messageQuestions, messageFields}
 use Rattle.record.specs.declared.clock.Timestamp.{Timestamp}
 use Rattle.record.specs.declared.message.Message.{Message}

@@ -1,26 +1,17 @@
+-- The questions are asked first, and decide both the answer and what is written.
 use mathlib.Core.Path.{_≡_, sym, _∙_}
-use mathlib.Core.List.{[], _∷_}
-use lib.Dec.{leb}
-use lib.ListN.{length}
-use Rattle.record.specs.Question.{_else_, given, worked, ask, outcome, unitQuestions}
-use Rattle.record.specs.Record.{messageQuestions, messageFields}
-use Rattle.record.proofs.Record.{write-next, write-verdict, write-room}
 use borrow.Author.Needs.{needs}
+use Rattle.question.specs.Question.{given, worked, outcome}
+use Rattle.record.specs.Record.{messageQuestions, messageFields}
+use Rattle.record.proofs.Record.{writeQuestioned, write-next, write-verdict, write-room}
 use Rattle.record.proofs.message.write_message.Statement.{statement}
 use Rattle.record.proofs.message.write_message.Tie as tie
-use Rattle.record.proofs.message.write_message.Reads as reads
-use Rattle.record.proofs.message.write_message.Lts as lts
-use Rattle.record.proofs.fields.put_unless_refused.Reads as put-unless-refused-reads
-use Rattle.record.proofs.message.check_message.Reads as check-message-reads
-use Rattle.record.proofs.message.message_fields.Reads as message-fields-reads
-use Rattle.record.proofs.question.check_room.Reads as check-room-reads
-use Rattle.record.proofs.question.check_unit.Reads as check-unit-reads
 
--- src/message.rt:106:9
--- the questions of writing, asked by themselves
+-- the questions that the code asked are those of writing
 asked : (c : tie.After-check-unit) →
     let a = c .before .before .before .before .before .args in
-    outcome (c .check-unit .result) ≡ ask (unitQuestions (a .k) (a .n)) (ask (messageQuestions (a .k) (a .n) (messageFields (a .m))) (ask ((leb 24 (length (a .destination .now)) else 15) ∷ []) (given worked)))
+    outcome (c .check-unit .result)
+    ≡ writeQuestioned (a .k) (a .n) (messageQuestions (a .k) (a .n)) (messageFields (a .m)) (a .destination .now)
 asked c =
     rw (
       c .check-unit .ensures,
@@ -32,40 +23,36 @@ asked c =
 message-fields-requires : tie.Need-message-fields-requires
 message-fields-requires c κs = search needs
 
--- src/message.rt:107:9
 check-room-requires : tie.Need-check-room-requires
 check-room-requires c κs = search needs
 
--- src/message.rt:108:30
 check-message-requires : tie.Need-check-message-requires
 check-message-requires c κs = search needs
 
--- src/message.rt:108:9
 check-unit-requires : tie.Need-check-unit-requires
 check-unit-requires c κs = search needs
 
--- src/message.rt:109:5
 put-unless-refused-requires : tie.Need-put-unless-refused-requires
 put-unless-refused-requires c κs =
     let a = c .before .before .before .before .before .before .args in
-    λ e. write-room (a .k) (a .n) (messageQuestions (a .k) (a .n) (messageFields (a .m))) (a .destination .now) (given worked) (sym (asked (c .before)) ∙ e)
+    let questions = messageQuestions (a .k) (a .n) (messageFields (a .m)) in
+    λ e. write-room (a .k) (a .n) questions (a .destination .now) (given worked) (sym (asked (c .before)) ∙ e)
 
--- src/message.rt:102:1
 same-length : tie.Need-same-length
 same-length c = search needs
 
--- src/message.rt:102:1
 returns : tie.Need-returns
 returns c =
-    let a = c .before .before .before .before .before .before .before .before .before .args in
     let o = c .before .before .before .before in
+    let a = o .before .before .before .before .before .args in
     let questions = messageQuestions (a .k) (a .n) in
-    let fields = messageFields (a .m) in (
-      write-verdict (a .k) (a .n) questions fields (a .destination .now) (outcome (o .check-unit .result)) (asked o),
+    let fields = messageFields (a .m) in
+    let alone = outcome (o .check-unit .result) in (
+      write-verdict (a .k) (a .n) questions fields (a .destination .now) alone (asked o),
       rw (
         c .before .before .put-unless-refused .ensures,
         o .before .before .before .message-fields .ensures,
-        write-next (a .k) (a .n) questions fields (a .destination .now) (outcome (o .check-unit .result)) (asked o),
+        write-next (a .k) (a .n) questions fields (a .destination .now) alone (asked o),
       ),
     )
 

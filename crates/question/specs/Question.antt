@@ -4,8 +4,8 @@ use Prim.Native.Nat.{ℕ}
 use mathlib.Core.Bool.{Bool, true, false, cond, _&&_}
 use mathlib.Core.List.{List, [], _∷_}
 use lib.Dec.{leb}
-use Rattle.record.specs.declared.question.Outcome.{Outcome}
-use Rattle.record.specs.declared.question.Outcome.the-variants.{Done, Refused}
+use Rattle.question.specs.declared.Outcome.{Outcome}
+use Rattle.question.specs.declared.Outcome.the-variants.{Done, Refused}
 
 infix 20 _else_
 -- a question: whether the answer is yes, and the refusal number where it is no

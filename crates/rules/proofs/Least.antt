@@ -1,0 +1,170 @@
+-- Laws of the least timestamp, of the earliest arrival, and of a group's batch, which has the least timestamp.
+use Prim.Native.Nat.{ℕ, _+_, _≤_, _<_, min}
+use mathlib.Core.Path.{_≡_, refl, sym, _∙_, ap}
+use mathlib.Core.Logic.{_⊎_, inl, inr, ⊎-elim}
+use mathlib.Core.Bool.{Bool, true, false, not, _&&_, and-eq-true-iff}
+use mathlib.Core.List.{List, [], _∷_, List·Memᴰ, List·Memᴰ·head, List·Memᴰ·tail, List·Memᴰ·cases-cons, List·Memᴰ·not-nil, Memᴰ·map}
+use native.Mathlib.Omega.{arith}
+use lib.Dec.{eqb, leb}
+use lib.ListN.{length}
+use borrow.Author.Tests.{eqb-true, eq-eqb, leb-true, leb-false, ltb-true, not-true}
+use Rattle.record.specs.declared.clock.Timestamp.{Timestamp}
+use Rattle.record.specs.declared.clock.LocalTime.{LocalTime}
+use Rattle.record.specs.declared.request.Request.{Request}
+use Rattle.rules.specs.Lists.{keep}
+use Rattle.rules.specs.Replica.{stamped, lowest, least, requestsOf, ofGroup, groupTimestamp, batchOf, others, earliest, isStable}
+use Rattle.rules.specs.declared.Pending.{Pending}
+use Rattle.rules.proofs.Lists.{case, true-not-false, keep-in, in-keep, keep-none, keep-parts, keep-both, keep-keep, in-length, map-in}
+
+-- ── the least timestamp ──
+
+lowest-start : (t : Timestamp) (l : List Request) → lowest t l .0 ≤ t .0
+lowest-start t [] = omega arith
+lowest-start t (r ∷ l) = omega (arith, lowest-start t l)
+
+lowest-below : (t : Timestamp) (l : List Request) {q : Request} → List·Memᴰ q l → lowest t l .0 ≤ q .timestamp .0
+lowest-below t l (List·Memᴰ·head e) = rw e (omega arith)
+lowest-below t l (List·Memᴰ·tail {xs = xs} m) = omega (arith, lowest-below t xs m)
+
+lowest-above : (b : ℕ) (t : Timestamp) (l : List Request) → b ≤ t .0 → ((q : Request) → List·Memᴰ q l → b ≤ q .timestamp .0) → b ≤ lowest t l .0
+lowest-above b t [] h k = h
+lowest-above b t (q ∷ l) h k = omega (arith, k q (List·Memᴰ·head refl), lowest-above b t l h (λ r m. k r (List·Memᴰ·tail m)))
+
+lowest-hit : (q : Request) (l : List Request) → (r : Request) × List·Memᴰ r (q ∷ l) × (r .timestamp .0 ≡ lowest (q .timestamp) l .0)
+lowest-hit q [] = (q, List·Memᴰ·head refl, refl)
+lowest-hit q (p ∷ l) = go (lowest-hit q l) (leb (p .timestamp .0) (lowest (q .timestamp) l .0)) refl
+  where
+    there : {r : Request} → (r ≡ q) ⊎ List·Memᴰ r l → List·Memᴰ r (q ∷ p ∷ l)
+    there (inl e) = List·Memᴰ·head e
+    there (inr m) = List·Memᴰ·tail (List·Memᴰ·tail m)
+
+    go : (r : Request) × List·Memᴰ r (q ∷ l) × (r .timestamp .0 ≡ lowest (q .timestamp) l .0)
+        → (b : Bool) → leb (p .timestamp .0) (lowest (q .timestamp) l .0) ≡ b
+        → (r : Request) × List·Memᴰ r (q ∷ p ∷ l) × (r .timestamp .0 ≡ min (p .timestamp .0) (lowest (q .timestamp) l .0))
+    go h true e = (p, List·Memᴰ·tail (List·Memᴰ·head refl), omega (arith, leb-true (p .timestamp .0) (lowest (q .timestamp) l .0) e))
+    go h false e = (h .0, there (List·Memᴰ·cases-cons (h .1)), omega (arith, h .2, leb-false (p .timestamp .0) (lowest (q .timestamp) l .0) e))
+
+-- no request has a lesser timestamp
+pub least-below : (l : List Request) {q : Request} → List·Memᴰ q l → least l .0 ≤ q .timestamp .0
+least-below [] m = absurd (List·Memᴰ·not-nil m)
+least-below (r ∷ l) {q} m = ⊎-elim
+    (λ (e : q ≡ r). rw e (lowest-start (r .timestamp) l))
+    (λ (n : List·Memᴰ q l). lowest-below (r .timestamp) l n)
+    (List·Memᴰ·cases-cons m)
+
+-- what is at most every timestamp is at most the least
+pub least-above : (b : ℕ) (q : Request) (l : List Request) → ((r : Request) → List·Memᴰ r (q ∷ l) → b ≤ r .timestamp .0) → b ≤ least (q ∷ l) .0
+least-above b q l h = lowest-above b (q .timestamp) l (h q (List·Memᴰ·head refl)) (λ r m. h r (List·Memᴰ·tail m))
+
+-- some request has it
+pub least-hit : (l : List Request) {q : Request} → List·Memᴰ q l → (r : Request) × List·Memᴰ r l × (r .timestamp .0 ≡ least l .0)
+least-hit [] m = absurd (List·Memᴰ·not-nil m)
+least-hit (r ∷ l) m = lowest-hit r l
+
+-- ── the earliest arrival ──
+
+-- some request of the list arrived then
+pub earliest-hit : (p : Pending) (l : List Pending) → (q : Pending) × List·Memᴰ q (p ∷ l) × (q .arrival .0 ≡ earliest (p .arrival) l .0)
+earliest-hit p [] = (p, List·Memᴰ·head refl, refl)
+earliest-hit p (x ∷ l) = go (earliest-hit p l) (leb (x .arrival .0) (earliest (p .arrival) l .0)) refl
+  where
+    there : {r : Pending} → (r ≡ p) ⊎ List·Memᴰ r l → List·Memᴰ r (p ∷ x ∷ l)
+    there (inl e) = List·Memᴰ·head e
+    there (inr m) = List·Memᴰ·tail (List·Memᴰ·tail m)
+
+    go : (r : Pending) × List·Memᴰ r (p ∷ l) × (r .arrival .0 ≡ earliest (p .arrival) l .0)
+        → (b : Bool) → leb (x .arrival .0) (earliest (p .arrival) l .0) ≡ b
+        → (r : Pending) × List·Memᴰ r (p ∷ x ∷ l) × (r .arrival .0 ≡ min (x .arrival .0) (earliest (p .arrival) l .0))
+    go h true e = (x, List·Memᴰ·tail (List·Memᴰ·head refl), omega (arith, leb-true (x .arrival .0) (earliest (p .arrival) l .0) e))
+    go h false e = (h .0, there (List·Memᴰ·cases-cons (h .1)), omega (arith, h .2, leb-false (x .arrival .0) (earliest (p .arrival) l .0) e))
+
+-- a stable batch has a request that arrived more than δ ago
+pub stable-hit : (delta : ℕ) (now : LocalTime) (l : List Pending) → isStable delta now l ≡ true
+    → (p : Pending) × List·Memᴰ p l × (p .arrival .0 + delta < now .0)
+stable-hit delta now [] e = true-not-false false e refl
+stable-hit delta now (p ∷ l) e =
+    let h = earliest-hit p l in
+    (h .0, h .1, omega (arith, h .2, ltb-true (earliest (p .arrival) l .0 + delta) (now .0) e))
+
+-- so it is not empty
+pub stable-some : (delta : ℕ) (now : LocalTime) (l : List Pending) → isStable delta now l ≡ true → 0 < length l
+stable-some delta now l e = in-length l (stable-hit delta now l e .1)
+
+-- ── the pending requests of a group with a timestamp ──
+
+abbrev pub batchAt : ℕ → Timestamp → List Pending → List Pending
+batchAt group t pending = keep (λ p. stamped t (p .request)) (keep (ofGroup group) pending)
+
+pub batchAt-in : (group : ℕ) (t : Timestamp) (pending : List Pending) {p : Pending} → List·Memᴰ p (batchAt group t pending)
+    → List·Memᴰ p pending × (p .request .group ≡ group) × (p .request .timestamp .0 ≡ t .0)
+batchAt-in group t pending {p} m =
+    let a = keep-in (λ q. stamped t (q .request)) (keep (ofGroup group) pending) m in
+    let b = keep-in (ofGroup group) pending (a .0) in
+    (b .0, eqb-true (p .request .group) group (b .1), eqb-true (p .request .timestamp .0) (t .0) (a .1))
+
+module _ (group : ℕ) (pending : List Pending) where
+  request-in : (p : Pending) → List·Memᴰ p pending → p .request .group ≡ group → List·Memᴰ (p .request) (requestsOf (keep (ofGroup group) pending))
+  request-in p m e = Memᴰ·map (λ (x : Pending). x .request) (in-keep (ofGroup group) pending m (eq-eqb (p .request .group) group e))
+
+  -- a group that has a pending request has a batch
+  pub batch-some : (p : Pending) → List·Memᴰ p pending → p .request .group ≡ group → 0 < length (batchOf group pending)
+  batch-some p m e =
+      let mine = keep (ofGroup group) pending in
+      let t = groupTimestamp group pending in
+      let a = least-hit (requestsOf mine) (request-in p m e) in
+      let b = map-in (λ (x : Pending). x .request) mine (a .1) in
+      let c : b .0 .request .timestamp .0 ≡ t .0 = ap (λ (r : Request). r .timestamp .0) (sym (b .2)) ∙ a .2 in
+      in-length (batchOf group pending) (in-keep (λ (x : Pending). stamped t (x .request)) mine (b .1) (eq-eqb (b .0 .request .timestamp .0) (t .0) c))
+
+  -- no pending request of the group has a lesser timestamp than its batch
+  pub batch-least : (p : Pending) → List·Memᴰ p pending → p .request .group ≡ group → groupTimestamp group pending .0 ≤ p .request .timestamp .0
+  batch-least p m e = least-below (requestsOf (keep (ofGroup group) pending)) (request-in p m e)
+
+  abbrev taken : Pending → Bool
+  taken p = ofGroup group p && stamped (groupTimestamp group pending) (p .request)
+
+  -- what stays was there, and is not of the batch
+  pub others-in : {p : Pending} → List·Memᴰ p (others group pending) → List·Memᴰ p pending × (taken p ≡ false)
+  others-in {p} m = let a = keep-in (λ q. not (taken q)) pending m in (a .0, not-true (taken p) (a .1))
+
+  -- the batch and what stays are as many as were pending
+  pub others-batch : length (others group pending) + length (batchOf group pending) ≡ length pending
+  others-batch = rw (keep-both (λ p. stamped (groupTimestamp group pending) (p .request)) (ofGroup group) pending) (keep-parts taken pending)
+
+  -- to take off a batch takes off one request or more
+  pub others-fewer : 0 < length (batchOf group pending) → length (others group pending) < length pending
+  others-fewer h = omega (arith, others-batch)
+
+  -- none of the batch's group and timestamp stays
+  pub others-none : batchAt group (groupTimestamp group pending) (others group pending) ≡ []
+  others-none =
+      rw (keep-both (λ p. stamped (groupTimestamp group pending) (p .request)) (ofGroup group) (others group pending))
+      (keep-none taken (others group pending) (λ p m. others-in m .1))
+
+  -- the pending requests of a group with a timestamp are taken off all or none
+  pub others-whole : (g : ℕ) (t : Timestamp) → (batchAt g t (others group pending) ≡ []) ⊎ (batchAt g t (others group pending) ≡ batchAt g t pending)
+  others-whole g t = case (eqb g group && eqb (t .0) (groupTimestamp group pending .0)) (λ e. inl (gone e)) (λ e. inr (kept e))
+    where
+      gone : eqb g group && eqb (t .0) (groupTimestamp group pending .0) ≡ true → batchAt g t (others group pending) ≡ []
+      gone e =
+          let a = and-eq-true-iff (eqb g group) (eqb (t .0) (groupTimestamp group pending .0)) .0 e in
+          rw (eqb-true g group (a .0), eqb-true (t .0) (groupTimestamp group pending .0) (a .1)) others-none
+
+      -- a request of g and t that is taken has the batch's group and timestamp
+      hit : (p : Pending) → ofGroup g p && stamped t (p .request) ≡ true → taken p ≡ true → eqb g group && eqb (t .0) (groupTimestamp group pending .0) ≡ true
+      hit p i j =
+          let a = and-eq-true-iff (ofGroup g p) (stamped t (p .request)) .0 i in
+          let b = and-eq-true-iff (ofGroup group p) (stamped (groupTimestamp group pending) (p .request)) .0 j in
+          rw (← eqb-true (p .request .group) g (a .0), ← eqb-true (p .request .timestamp .0) (t .0) (a .1), b .0, b .1)
+
+      kept : eqb g group && eqb (t .0) (groupTimestamp group pending .0) ≡ false → batchAt g t (others group pending) ≡ batchAt g t pending
+      kept e =
+          rw (keep-both (λ p. stamped t (p .request)) (ofGroup g) (others group pending), keep-both (λ p. stamped t (p .request)) (ofGroup g) pending)
+          (keep-keep (λ p. ofGroup g p && stamped t (p .request)) (λ p. not (taken p)) pending
+          (λ p i. case (taken p) (λ j. true-not-false (eqb g group && eqb (t .0) (groupTimestamp group pending .0)) (hit p i j) e) (λ j. rw j)))
+
+  -- the requests of another group all stay
+  pub others-other : (g : ℕ) → eqb group g ≡ false → keep (ofGroup g) (others group pending) ≡ keep (ofGroup g) pending
+  others-other g e = keep-keep (ofGroup g) (λ p. not (taken p)) pending (λ p i. case (ofGroup group p)
+      (λ a. true-not-false (eqb group g) (eq-eqb group g (sym (eqb-true (p .request .group) group a) ∙ eqb-true (p .request .group) g i)) e)
+      (λ a. rw a))

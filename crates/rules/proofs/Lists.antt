@@ -1,0 +1,147 @@
+-- Laws of keep, every, some, upTo and tally.
+use Prim.Native.Nat.{ℕ, zero, suc, _+_, _≤_, _<_}
+use mathlib.Core.Path.{_≡_, refl, _∙_, ap}
+use mathlib.Core.Logic.{_⊎_, inl, inr, ⊎-elim}
+use mathlib.Core.Bool.{Bool, true, false, not, cond, _&&_, _||_, and-eq-true-iff}
+use mathlib.Core.List.{List, [], _∷_, map, List·Memᴰ, List·Memᴰ·head, List·Memᴰ·tail, List·Memᴰ·cases-cons, List·Memᴰ·not-nil}
+use native.Mathlib.Omega.{arith}
+use lib.Dec.{eqb}
+use lib.ListN.{length, length-append}
+use borrow.Author.Tests.{eqb-true, eqb-false}
+use Rattle.rules.specs.Lists.{keep, every, some, upTo, tally}
+
+-- ── tests ──
+
+-- a case of a computed test, with its equation
+pub case {ℓ} : {A : Type ℓ} (b : Bool) → (b ≡ true → A) → (b ≡ false → A) → A
+case true f g = f refl
+case false f g = g refl
+
+-- a test does not come out both ways
+pub true-not-false : {A : Type 0} (b : Bool) → b ≡ true → b ≡ false → A
+true-not-false b p q = absurd (let z : _≡_ {A = ℕ} 0 1 = cc in omega arith)
+
+-- ── lists ──
+
+module _ {A : Type 0} where
+  -- what is kept was there, and passes
+  pub keep-in : (p : A → Bool) (l : List A) {x : A} → List·Memᴰ x (keep p l) → List·Memᴰ x l × (p x ≡ true)
+  keep-in p [] m = absurd (List·Memᴰ·not-nil m)
+  keep-in p (y ∷ l) {x} m =
+      case (p y)
+      (λ e. yes′ e (λ n. keep-in p l n) (List·Memᴰ·cases-cons (rw e at m)))
+      (λ e. let r = keep-in p l (rw e at m) in (List·Memᴰ·tail (r .0), r .1))
+    where
+      yes′ : p y ≡ true → (List·Memᴰ x (keep p l) → List·Memᴰ x l × (p x ≡ true)) → (x ≡ y) ⊎ List·Memᴰ x (keep p l)
+          → List·Memᴰ x (y ∷ l) × (p x ≡ true)
+      yes′ e h (inl q) = (List·Memᴰ·head q, rw q e)
+      yes′ e h (inr n) = let r = h n in (List·Memᴰ·tail (r .0), r .1)
+
+  -- what was there and passes is kept
+  pub in-keep : (p : A → Bool) (l : List A) {x : A} → List·Memᴰ x l → p x ≡ true → List·Memᴰ x (keep p l)
+  in-keep p l (List·Memᴰ·head {x = y} q) e = rw (← q, e) (List·Memᴰ·head refl)
+  in-keep p l {x = z} (List·Memᴰ·tail {x = y} {xs = ys} m) e =
+      elim (p y) as (λ t. List·Memᴰ z (cond t (y ∷ keep p ys) (keep p ys))) [ true ↦ List·Memᴰ·tail (in-keep p ys m e) | false ↦ in-keep p ys m e ]
+
+  pub keep-none : (p : A → Bool) (l : List A) → ((x : A) → List·Memᴰ x l → p x ≡ false) → keep p l ≡ []
+  keep-none p [] h = refl
+  keep-none p (x ∷ l) h = rw (h x (List·Memᴰ·head refl)) (keep-none p l (λ y m. h y (List·Memᴰ·tail m)))
+
+  -- a list is split into what passes and what does not
+  pub keep-parts : (p : A → Bool) (l : List A) → length (keep (λ x. not (p x)) l) + length (keep p l) ≡ length l
+  keep-parts p [] = refl
+  keep-parts p (x ∷ l) = let h = keep-parts p l in case (p x) (λ e. rw e (omega arith)) (λ e. rw e (omega arith))
+
+  -- one test after another is both
+  pub keep-both : (p q : A → Bool) (l : List A) → keep p (keep q l) ≡ keep (λ x. q x && p x) l
+  keep-both p q [] = refl
+  keep-both p q (x ∷ l) =
+      let h = keep-both p q l in
+      case (q x) (λ e. case (p x) (λ f. rw (e, f, h)) (λ f. rw (e, f) h)) (λ e. rw e h)
+
+  -- a test that the other implies makes no difference
+  pub keep-keep : (p q : A → Bool) (l : List A) → ((x : A) → p x ≡ true → q x ≡ true) → keep p (keep q l) ≡ keep p l
+  keep-keep p q [] h = refl
+  keep-keep p q (x ∷ l) h =
+      case (q x)
+      (λ e. rw (e, keep-keep p q l h))
+      (λ e. rw e (case (p x) (λ f. true-not-false (q x) (h x f) e) (λ f. rw f (keep-keep p q l h))))
+
+  -- a list with a member is not empty
+  pub in-length : (l : List A) {x : A} → List·Memᴰ x l → 0 < length l
+  in-length [] m = absurd (List·Memᴰ·not-nil m)
+  in-length (x ∷ l) m = omega arith
+
+module _ {A B : Type 0} (f : A → B) where
+  pub map-in : (l : List A) {y : B} → List·Memᴰ y (map f l) → (x : A) × List·Memᴰ x l × (y ≡ f x)
+  map-in [] m = absurd (List·Memᴰ·not-nil m)
+  map-in (x ∷ l) {y} m = go (λ n. map-in l n) (List·Memᴰ·cases-cons m)
+    where
+      go : (List·Memᴰ y (map f l) → (z : A) × List·Memᴰ z l × (y ≡ f z)) → (y ≡ f x) ⊎ List·Memᴰ y (map f l)
+          → (z : A) × List·Memᴰ z (x ∷ l) × (y ≡ f z)
+      go h (inl q) = (x, List·Memᴰ·head refl, q)
+      go h (inr n) = let r = h n in (r .0, List·Memᴰ·tail (r .1), r .2)
+
+module _ {A : Type 0} (p : A → Bool) where
+  pub every-in : (l : List A) → every p l ≡ true → (x : A) → List·Memᴰ x l → p x ≡ true
+  every-in [] e x m = absurd (List·Memᴰ·not-nil m)
+  every-in (y ∷ l) e x m =
+      let a = and-eq-true-iff (p y) (every p l) .0 e in
+      ⊎-elim (λ (q : x ≡ y). rw q (a .0)) (λ (n : List·Memᴰ x l). every-in l (a .1) x n) (List·Memᴰ·cases-cons m)
+
+  pub some-in : (l : List A) → some p l ≡ true → (x : A) × List·Memᴰ x l × (p x ≡ true)
+  some-in [] e = true-not-false false e refl
+  some-in (y ∷ l) e = case (p y) (λ a. (y, List·Memᴰ·head refl, a)) (λ a. let r = some-in l (rw a at e) in (r .0, List·Memᴰ·tail (r .1), r .2))
+
+pub length-upTo : (n : ℕ) → length (upTo n) ≡ n
+length-upTo zero = refl
+length-upTo (suc n) = omega (arith, length-append (upTo n) (suc n ∷ []), length-upTo n)
+
+-- ── how many of 1 to n ──
+
+pub tally-bound : (p : ℕ → Bool) (n : ℕ) → tally p n ≤ n
+tally-bound p zero = omega arith
+tally-bound p (suc n) = let h = tally-bound p n in case (p (suc n)) (λ e. rw e (omega arith)) (λ e. rw e (omega arith))
+
+-- where any pass, one does
+pub tally-hit : (p : ℕ → Bool) (n : ℕ) → 0 < tally p n → (i : ℕ) × (1 ≤ i) × (i ≤ n) × (p i ≡ true)
+tally-hit p zero h = absurd (omega arith)
+tally-hit p (suc n) h = case (p (suc n))
+    (λ a. (suc n, omega arith, omega arith, a))
+    (λ a. let r = tally-hit p n (rw a at h) in (r .0, r .1, omega (arith, r .2), r .3))
+
+-- where all of 1 to n pass, each does
+pub tally-full : (p : ℕ → Bool) (n : ℕ) → n ≤ tally p n → (i : ℕ) → 1 ≤ i → i ≤ n → p i ≡ true
+tally-full p zero h i lo hi = absurd (omega arith)
+tally-full p (suc n) h i lo hi = case (p (suc n))
+    (λ e. case (eqb i (suc n))
+    (λ t. ap p (eqb-true i (suc n) t) ∙ e)
+    (λ t. tally-full p n (omega (arith, rw e at h)) i lo (omega (arith, eqb-false i (suc n) t))))
+    (λ e. absurd (omega (arith, rw e at h, tally-bound p n)))
+
+-- tests that no number passes both are passed by at most n together
+pub tally-apart : (p q : ℕ → Bool) (n : ℕ) → ((i : ℕ) → p i ≡ true → q i ≡ true → ⊥) → tally p n + tally q n ≤ n
+tally-apart p q zero h = omega arith
+tally-apart p q (suc n) h =
+    let r = tally-apart p q n h in
+    case (p (suc n))
+    (λ a. case (q (suc n)) (λ b. absurd (h (suc n) a b)) (λ b. rw (a, b) (omega arith)))
+    (λ a. case (q (suc n)) (λ b. rw (a, b) (omega arith)) (λ b. rw (a, b) (omega arith)))
+
+-- one more number that may pass
+tally-more : (p : ℕ → Bool) (a n : ℕ) → tally p n ≤ tally (λ i. eqb i a || p i) n
+tally-more p a zero = omega arith
+tally-more p a (suc n) =
+    let h = tally-more p a n in
+    case (eqb (suc n) a)
+    (λ e. case (p (suc n)) (λ t. rw (e, t) (omega arith)) (λ t. rw (e, t) (omega arith)))
+    (λ e. case (p (suc n)) (λ t. rw (e, t) (omega arith)) (λ t. rw (e, t) h))
+
+-- one of 1 to n that did not pass, let pass, adds one
+pub tally-add : (p : ℕ → Bool) (a n : ℕ) → p a ≡ false → 1 ≤ a → a ≤ n → suc (tally p n) ≤ tally (λ i. eqb i a || p i) n
+tally-add p a zero h lo hi = absurd (omega arith)
+tally-add p a (suc n) h lo hi = case (eqb (suc n) a)
+    (λ e. rw (e, ap p (eqb-true (suc n) a e) ∙ h) (omega (arith, tally-more p a n)))
+    (λ e.
+    let r = tally-add p a n h lo (omega (arith, eqb-false (suc n) a e)) in
+    case (p (suc n)) (λ t. rw (e, t) (omega arith)) (λ t. rw (e, t) r))

@@ -1,0 +1,193 @@
+-- Over a whole run, faults or not: the store comes about by changes each of which is a failure, or a write that each of the
+-- owner's k + 1 processes sent with one timestamp and that arrived.
+use Prim.Native.Nat.{ℕ, _+_, _≤_}
+use mathlib.Core.Path.{_≡_, refl, sym, _∙_, ap, subst}
+use mathlib.Core.Logic.{⊎-elim}
+use mathlib.Core.List.{List, [], _∷_, List·Memᴰ, List·Memᴰ·not-nil, List·Memᴰ·append-cases, List·Memᴰ·eq-of-singleton, Memᴰ·append-left, Memᴰ·append-right, Memᴰ·map}
+use native.Mathlib.Omega.{arith}
+use lib.Dec.{eqb, ltb}
+use lib.ListN.{length}
+use borrow.Author.Tests.{eq-eqb}
+use Rattle.question.specs.Question.{_else_, Answer, given, refused, ask, bind, after, unitQuestions}
+use Rattle.record.specs.Layout.{fieldsOf}
+use Rattle.record.specs.Record.{requestQuestions, requestIn, readWith, readRequest}
+use Rattle.record.specs.declared.clock.LocalTime.{LocalTime}
+use Rattle.record.specs.declared.request.Request.{Request}
+use Rattle.question.proofs.Questions.{ask-all-yes, ask-through, within-true}
+use Rattle.rules.specs.Batch.{Settings, Store, newStore, handle}
+use Rattle.rules.specs.Replica.{State, Stepped, newState, timeQuestions, admit, arrive, deliver, requestsOf, groupTimestamp, batchOf, handleBatch, visits, atTime, stepped, step}
+use Rattle.rules.specs.Run.{Call, delivery, turn, sentBy, call, run, arrived, arrivalOf, arrivals}
+use Rattle.rules.specs.declared.Pending.{Pending}
+use Rattle.rules.proofs.Lists.{map-in}
+use Rattle.rules.proofs.Least.{batchAt-in}
+use Rattle.rules.proofs.Visits.{visits-all}
+use Rattle.rules.proofs.Keeps.{Keeps, batch-keeps}
+use Rattle.rules.proofs.Step.{step-accepted}
+use Rattle.rules.proofs.Senders.{Change, kept, fails, performs, performed-by-all}
+
+-- ── what is admitted ──
+
+bind-given : {A B : Type 0} (a : Answer A) (f : A → Answer B) {b : B} → bind a f ≡ given b → (x : A) × (a ≡ given x) × (f x ≡ given b)
+bind-given (given x) f e = (x, refl, e)
+bind-given (refused number) f e = absurd (let z : _≡_ {A = ℕ} 0 1 = cc in omega arith)
+
+-- an accepted record is of a process within 1 to k + 1
+read-process : (k n : ℕ) (bytes : List ℕ) {r : Request} → readRequest k n bytes ≡ given r → (1 ≤ r .process) × (r .process ≤ k + 1)
+unfolding readWith requestQuestions
+read-process k n bytes {r} e =
+    let f = fieldsOf bytes in
+    let rest = ask (requestQuestions k n f) (given (requestIn f)) in
+    let a = ask-through (unitQuestions k n) (ask ((eqb (length bytes) 24 else 6) ∷ []) rest) e in
+    let b = ask-through ((eqb (length bytes) 24 else 6) ∷ []) rest a in
+    let yes = ask-all-yes (requestQuestions k n f) (given (requestIn f)) b in
+    let c = ask-through (requestQuestions k n f) (given (requestIn f)) b in
+    let same : f .process ≡ r .process = cc in
+    rw same at (within-true 1 (k + 1) (f .process) (yes .1 .1 .0))
+
+admit-process : (s : State) (bytes : List ℕ) (now : LocalTime) {r : Request} → admit s bytes now ≡ given r
+    → (1 ≤ r .process) × (r .process ≤ s .settings .k + 1)
+unfolding admit
+admit-process s bytes now {r} e =
+    let rest : Request → Answer Request = λ q. ask ((ltb (length (s .pending)) 64 else 14) ∷ []) (given q) in
+    let a = bind-given (readRequest (s .settings .k) (s .settings .groups) bytes) (λ q. ask (timeQuestions s now) (rest q)) e in
+    let b = ask-through (timeQuestions s now) (rest (a .0)) (a .2) in
+    let c = ask-through ((ltb (length (s .pending)) 64 else 14) ∷ []) (given (a .0)) b in
+    let same : a .0 ≡ r = cc in
+    read-process (s .settings .k) (s .settings .groups) bytes (a .1 ∙ ap given same)
+
+-- ── the course of a store ──
+
+-- the requests of the batch that is handled next
+abbrev batchIn : ℕ → State → List Request
+batchIn group s = requestsOf (batchOf group (s .pending))
+
+module _ (u : Settings) (requests : List Request) where
+  -- one change after another, each by requests that were sent
+  pub data Course (s : Store) : Store → Type 0 where
+    start : Course s s
+    then : {t r : Store} → Course s t → Change u requests t r → Course s r
+
+  course-then : {s t r : Store} → Course s t → Course t r → Course s r
+  course-then a start = a
+  course-then a (then b c) = then (course-then a b) c
+
+  change-more : (batch : List Request) {s t : Store} → ((r : Request) → List·Memᴰ r batch → r .group ≡ u .owner → List·Memᴰ r requests)
+      → Change u batch s t → Change u requests s t
+  change-more batch more (kept e) = kept e
+  change-more batch more (fails e) = fails e
+  change-more batch more (performs t w) = performs t (λ p low high.
+      let a = w p low high in
+      record {
+        request = a .request;
+        sent = more (a .request) (a .sent) (a .group);
+        kind = a .kind;
+        group = a .group;
+        process = a .process;
+        timestamp = a .timestamp;
+        does = a .does;
+      })
+
+  abbrev Within : Request → Type 0
+  Within r = (1 ≤ r .process) × (r .process ≤ u .k + 1)
+
+  -- what is pending was sent, by processes within 1 to k + 1
+  record Ready (s : State) : Type 0 where
+    settings : s .settings ≡ u
+    within : (p : Pending) → List·Memᴰ p (s .pending) → Within (p .request)
+    known : (p : Pending) → List·Memᴰ p (s .pending) → p .request .group ≡ u .owner → List·Memᴰ (p .request) requests
+
+  abbrev Runs : State → State → Type 0
+  Runs s t = Ready s → Ready t × Course (s .store) (t .store)
+
+  runs-same : (s : State) → Runs s s
+  runs-same s r = (r, start)
+
+  runs-then : {s t v : State} → Runs s t → Runs t v → Runs s v
+  runs-then a b r = let x = a r in let y = b (x .0) in (y .0, course-then (x .1) (y .1))
+
+  keeps-ready : {s t : State} → Keeps s t → Ready s → Ready t
+  keeps-ready k r = record {
+    settings = k .settings ∙ r .settings;
+    within = λ p i. r .within p (k .pending p i);
+    known = λ p i. r .known p (k .pending p i);
+  }
+
+  batch-runs : (group : ℕ) (s : State) → Runs s (handleBatch group s .state)
+  unfolding handleBatch
+  batch-runs group s r = (keeps-ready (batch-keeps group s) r, then start (change-more (batchIn group s) more change))
+    where
+      from : (q : Request) → List·Memᴰ q (batchIn group s)
+          → (p : Pending) × (q ≡ p .request) × List·Memᴰ p (s .pending) × (p .request .group ≡ group)
+          × (p .request .timestamp .0 ≡ groupTimestamp group (s .pending) .0)
+      from q i =
+          let a = map-in (λ (p : Pending). p .request) (batchOf group (s .pending)) i in
+          let b = batchAt-in group (groupTimestamp group (s .pending)) (s .pending) (a .1) in
+          (a .0, a .2, b .0, b .1, b .2)
+
+      more : (q : Request) → List·Memᴰ q (batchIn group s) → q .group ≡ u .owner → List·Memᴰ q requests
+      more q i e =
+          let a = from q i in
+          let owned : a .0 .request .group ≡ u .owner = ap (λ (x : Request). x .group) (sym (a .1)) ∙ e in
+          subst (λ (x : Request). List·Memᴰ x requests) (sym (a .1)) (r .known (a .0) (a .2) owned)
+
+      of : (q : Request) → List·Memᴰ q (batchIn group s)
+          → (q .group ≡ group) × (q .timestamp .0 ≡ groupTimestamp group (s .pending) .0) × (1 ≤ q .process) × (q .process ≤ u .k + 1)
+      of q i = let a = from q i in let w = r .within (a .0) (a .2) in rw (a .1) (a .3, a .4, w .0, w .1)
+
+      change : Change u (batchIn group s) (s .store) (handleBatch group s .state .store)
+      change =
+          let t = groupTimestamp group (s .pending) in
+          let batch = batchIn group s in
+          subst (λ (v : Settings). Change u batch (s .store) (handle v (s .number) group t batch (s .store) .state)) (sym (r .settings))
+          (performed-by-all u (s .number) group t batch (s .store) of)
+
+  visits-run : (n : ℕ) (now : LocalTime) (s : State) → Runs s (visits n now s .state)
+  visits-run n now s =
+      visits-all now (λ s e. Runs s (e .state)) runs-same (λ s e next a b. runs-then a b) (λ group s e. batch-runs group s) n s
+
+  step-runs : (s : State) (now : LocalTime) (output : List ℕ) (a : Answer Stepped) → step s now output ≡ a → Runs s (sentBy s a .state)
+  unfolding stepped
+  step-runs s now output (refused number) e = runs-same s
+  step-runs s now output (given d) e = λ r. rw (step-accepted s now output e)
+      (visits-run (s .settings .groups) now (atTime s now) (record { settings = r .settings; within = r .within; known = r .known }))
+
+  -- the arrivals are among the requests
+  abbrev Covers : List Pending → Type 0
+  Covers arrivals = (p : Pending) → List·Memᴰ p arrivals → List·Memᴰ (p .request) requests
+
+  deliver-runs : (s : State) (bytes : List ℕ) (now : LocalTime) (a : Answer Request) → admit s bytes now ≡ a
+      → Covers (arrived (s .settings .owner) now a) → Runs s (after s (bind a (λ r. given (arrive s r now))))
+  deliver-runs s bytes now (refused number) e all = runs-same s
+  deliver-runs s bytes now (given q) e all = λ r. (record { settings = r .settings; within = within r; known = known r }, start)
+    where
+      within : Ready s → (p : Pending) → List·Memᴰ p (arrive s q now .pending) → Within (p .request)
+      within r p i =
+          let w : Within q = subst (λ (v : Settings). (1 ≤ q .process) × (q .process ≤ v .k + 1)) (r .settings) (admit-process s bytes now e) in
+          ⊎-elim (r .within p)
+          (λ j. subst (λ (x : Pending). Within (x .request)) (sym (List·Memᴰ·eq-of-singleton j)) w)
+          (List·Memᴰ·append-cases (s .pending) i)
+
+      known : Ready s → (p : Pending) → List·Memᴰ p (arrive s q now .pending) → p .request .group ≡ u .owner → List·Memᴰ (p .request) requests
+      known r p i g = ⊎-elim (λ j. r .known p j g)
+          (λ j.
+          let owned : q .group ≡ s .settings .owner = ap (λ (x : Pending). x .request .group) (sym (List·Memᴰ·eq-of-singleton j)) ∙ (g ∙ ap (λ (v : Settings). v .owner) (sym (r .settings))) in
+          all p (rw (eq-eqb (q .group) (s .settings .owner) owned) j))
+          (List·Memᴰ·append-cases (s .pending) i)
+
+  call-runs : (s : State) (c : Call) → Covers (arrivalOf s c) → Runs s (call s c .state)
+  unfolding call deliver
+  call-runs s (delivery bytes now) all = deliver-runs s bytes now (admit s bytes now) refl all
+  call-runs s (turn now output) all = step-runs s now output (step s now output) refl
+
+  run-runs : (calls : List Call) (s : State) → Covers (arrivals s calls) → Runs s (run s calls .state)
+  unfolding run arrivals
+  run-runs [] s all = runs-same s
+  run-runs (c ∷ calls) s all =
+      runs-then (call-runs s c (λ p i. all p (Memᴰ·append-left (arrivals (call s c .state) calls) i)))
+      (run-runs calls (call s c .state) (λ p i. all p (Memᴰ·append-right (arrivalOf s c) i)))
+
+pub run-performed-by-all : (u : Settings) (number : ℕ) (calls : List Call)
+    → Course u (requestsOf (arrivals (newState u number) calls)) newStore (run (newState u number) calls .state .store)
+run-performed-by-all u number calls =
+    run-runs u (requestsOf (arrivals (newState u number) calls)) calls (newState u number) (λ p i. Memᴰ·map (λ (x : Pending). x .request) i)
+    (record { settings = refl; within = λ p i. absurd (List·Memᴰ·not-nil i); known = λ p i. absurd (List·Memᴰ·not-nil i) }) .1
