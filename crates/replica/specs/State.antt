@@ -8,8 +8,8 @@ use Rattle.rules.specs.Batch.{Settings, Store}
 use Rattle.rules.specs.Replica.{State, newState}
 use Rattle.rules.specs.declared.Pending.{Pending}
 use Rattle.replica.specs.declared.state.Replica.{Replica}
-use Rattle.replica.specs.declared.step.StepAnswer.{StepAnswer}
-use Rattle.replica.specs.declared.step.StepAnswer.the-variants.{Sent, Refused}
+use Rattle.replica.specs.declared.stepping.StepAnswer.{StepAnswer}
+use Rattle.replica.specs.declared.stepping.StepAnswer.the-variants.{Sent, Refused}
 
 abbrev pub settings : ℕ → ℕ → ℕ → ℕ → Settings
 settings k n owner delta = record { k = k; groups = n; owner = owner; delta = delta }

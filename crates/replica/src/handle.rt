@@ -1,10 +1,11 @@
 // One batch: taken off, and handled as Figure 1 says.
 ghost use mathlib.Core.Path.{_≡_};
-ghost use Prim.Native.Nat.{_+_, _≤_, _*_};
+ghost use Prim.Native.Nat.{_+_, _≤_};
+ghost use mathlib.Core.List.{[], _∷_};
 ghost use mathlib.Core.Bool.{_&&_, not};
 ghost use lib.Dec.{eqb};
 ghost use lib.ListN.{length};
-ghost use Rattle.rules.specs.Batch.{Store, failed, oneMore, perform, fail};
+ghost use Rattle.rules.specs.Batch.{failed, oneMore, perform, fail};
 ghost use Rattle.rules.specs.Replica.{groupTimestamp, handleBatch};
 ghost use Rattle.replica.specs.State.{waiting, stateOf, withStore};
 ghost use Rattle.replica.specs.Output.{writeAt};

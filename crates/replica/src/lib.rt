@@ -1,22 +1,22 @@
 // The replica (document 01's storage card) as code: make, deliver, step. Each does what crates/rules
 // says of the state that the struct stands for, for any value of any parameter.
 //
-// Read on in this order: `state` (the struct), `make`, `deliver`; then for a step `pending` (the
-// batch of a group), `unanimity`, `output` (the messages), `handle` (one batch), `step`.
-mod deliver;
+// Read on in this order: `state` (the struct), `making`, `delivery`; then for a step `pending` (the
+// batch of a group), `unanimity`, `output` (the messages), `handle` (one batch), `stepping`.
+mod delivery;
 mod handle;
-mod make;
+mod making;
 mod output;
 mod pending;
 mod state;
-mod step;
+mod stepping;
 mod unanimity;
 
-pub use deliver::Delivered;
-pub use deliver::deliver;
-pub use make::Made;
-pub use make::make;
+pub use delivery::Delivered;
+pub use delivery::deliver;
+pub use making::Made;
+pub use making::make;
 pub use state::Replica;
-pub use step::StepAnswer;
-pub use step::Stepped;
-pub use step::step;
+pub use stepping::StepAnswer;
+pub use stepping::Stepped;
+pub use stepping::step;

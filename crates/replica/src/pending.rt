@@ -1,11 +1,10 @@
 // The batch of a group among the pending requests: finding it, and taking it off.
 ghost use mathlib.Core.Path.{_≡_};
-ghost use mathlib.Core.Bool.{not};
-ghost use Prim.Native.Nat.{_≤_};
+ghost use mathlib.Core.Bool.{cond, not};
 ghost use Rattle.rules.specs.Lists.{keep};
-ghost use Rattle.rules.specs.Replica.{isStable, batchOf};
+ghost use Rattle.rules.specs.Replica.{earlier};
 ghost use Rattle.replica.specs.State.{waiting, stateOf, withPending};
-ghost use Rattle.replica.specs.Head.{meet, join, headOf, headIn, stableHead, inBatch, isLate};
+ghost use Rattle.replica.specs.Head.{meet, join, headIn, isLate, stableHead, inBatch};
 use crate::state::Replica;
 use crate::state::pending_count;
 use record::LocalTime;

@@ -1,8 +1,9 @@
 // What a batch is: all reads, or a unanimous write.
 ghost use mathlib.Core.Path.{_≡_};
-ghost use Rattle.rules.specs.Batch.{isRead, isWrite, sameWrite, allReads, unanimous};
-ghost use Rattle.replica.specs.State.{waiting, blankRequest};
-ghost use Rattle.replica.specs.Head.{inBatch, batchAt, firstOf};
+ghost use mathlib.Core.Bool.{cond, _&&_};
+ghost use Rattle.rules.specs.Batch.{isWrite, sameWrite, allReads, unanimous};
+ghost use Rattle.replica.specs.State.{waiting};
+ghost use Rattle.replica.specs.Head.{batchAt, firstOf};
 use crate::pending::in_batch;
 use crate::state::Replica;
 use crate::state::pending_count;

@@ -8,7 +8,7 @@ ghost use Rattle.question.specs.Question.{_else_, given, refused, worked, ask, 
 ghost use Rattle.rules.specs.Replica.{timeQuestions, visit, visits, atTime, step};
 ghost use Rattle.replica.specs.State.{stateOf, stepAnswer, waiting};
 ghost use Rattle.replica.specs.Output.{writeAt};
-use crate::deliver::check_time;
+use crate::delivery::check_time;
 use crate::handle::Progress;
 use crate::handle::handle_batch;
 use crate::pending::Head;

@@ -1,10 +1,7 @@
 // Delivery of a request.
 ghost use mathlib.Core.Path.{_≡_};
 ghost use Prim.Native.Nat.{ℕ, _<_};
-ghost use mathlib.Core.List.{[], _∷_};
-ghost use lib.Dec.{ltb};
-ghost use lib.ListN.{length};
-ghost use Rattle.question.specs.Question.{_else_, refused, given, ask, after, verdict, outcome};
+ghost use Rattle.question.specs.Question.{refused, ask, next, after, verdict, outcome};
 ghost use Rattle.record.specs.Record.{requestAnswer};
 ghost use Rattle.rules.specs.Replica.{timeQuestions, admit, arrive, deliver};
 ghost use Rattle.replica.specs.State.{stateOf};
