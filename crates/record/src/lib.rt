@@ -15,6 +15,7 @@ pub use clock::LocalTime;
 pub use clock::Timestamp;
 pub use message::Message;
 pub use message::MessageRead;
+pub use message::passes;
 pub use message::read_message;
 pub use message::write_message;
 pub use request::Request;

@@ -1,6 +1,6 @@
 // Messages: a reply or a halt, from a replica to a process.
 ghost use mathlib.Core.Path.{_≡_};
-ghost use Rattle.question.specs.Question.{given, ask, after, verdict, outcome};
+ghost use Rattle.question.specs.Question.{given, ask, allYes, after, verdict, outcome};
 ghost use Rattle.record.specs.Record.{messageQuestions, messageIn, messageFields, messageAnswer, readMessage, writeMessage};
 use crate::clock::Timestamp;
 use crate::fields::Fields;
@@ -77,6 +77,16 @@ fn check_message(k: u8, n: u8, f: Fields, rest: Outcome) -> Outcome
     let q9 = ask(is_within(1, k as u64 + 1, f.process as u64), 9, q5);
     let q8 = ask(is_within(1, n as u64, f.group as u64), 8, q9);
     ask(is_message(f.kind), 7, q8)
+}
+
+// Whether the message questions are all answered yes.
+pub fn passes(k: u8, n: u8, m: Message) -> bool
+    ensures { λ b. ⌜ b ≡ allYes (messageQuestions k n (messageFields m)) ⌝ }
+{
+    match check_message(k, n, message_fields(m), Outcome::Done) {
+        Outcome::Done => true,
+        Outcome::Refused(_) => false,
+    }
 }
 
 // The fields as a message, where their questions are answered yes.

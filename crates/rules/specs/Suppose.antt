@@ -7,7 +7,7 @@ use mathlib.Core.Bool.{Bool, true, false, cond, _&&_, _||_}
 use mathlib.Core.List.{List, [], _∷_, List·Memᴰ}
 use lib.Dec.{eqb, ltb}
 use lib.ListN.{length}
-use Rattle.question.specs.Question.{Answer, given, refused}
+use Rattle.question.specs.Question.{isGiven}
 use Rattle.record.specs.Record.{reply, halt}
 use Rattle.record.specs.declared.clock.Timestamp.{Timestamp}
 use Rattle.record.specs.declared.clock.LocalTime.{LocalTime}
@@ -49,10 +49,6 @@ ArrivalRule delta all =
     → q .arrival .0 ≤ firstArrival (p .request .timestamp) all .0 + delta
 
 -- ── a closing step ──
-
-abbrev pub isGiven : {A : Type 0} → Answer A → Bool
-isGiven (given a) = true
-isGiven (refused number) = false
 
 -- an accepted step more than δ past every one of the owner's arrivals
 abbrev pub closesNow : List Pending → State → Call → Bool

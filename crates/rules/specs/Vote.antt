@@ -6,16 +6,9 @@ use lib.Dec.{eqb, leb}
 use lib.ListN.{length}
 use Rattle.question.specs.Question.{_else_, Answer, given, refused, ask, allYes, unitQuestions}
 use Rattle.record.specs.Record.{reply, halt, messageQuestions, messageFields}
-use Rattle.record.specs.declared.clock.Timestamp.{Timestamp}
 use Rattle.record.specs.declared.message.Message.{Message}
 use Rattle.rules.specs.Lists.{some, tally}
-
--- what a vote is on: a group, a process of it, a variable and a timestamp
-pub record Query : Type 0 where
-  pub group : ℕ
-  pub process : ℕ
-  pub variable : ℕ
-  pub timestamp : Timestamp
+pub use Rattle.rules.specs.declared.Query.{Query}
 
 -- the message passes the message questions
 abbrev pub passes : ℕ → ℕ → Message → Bool
