@@ -17,7 +17,8 @@ use Rattle.rules.specs.Batch.{Settings, Store, valueOf, failed, allReads}
 use Rattle.rules.specs.Replica.{make, newState, stamped, requestsOf}
 use Rattle.rules.specs.Run.{Call, delivery, turn, run}
 use Rattle.rules.specs.Machine.{machine, signedBy}
-use Rattle.rules.specs.Vote.{Query, vote, haltCount}
+use Rattle.rules.specs.Vote.{vote, haltCount}
+use Rattle.rules.specs.declared.Query.{Query}
 use Rattle.rules.specs.Suppose.{AtMostFaulty, Correct, Orderly, Authentic, CompleteForRead, CompleteForHalts, messagesOf, arrivalsOf}
 
 -- ── what is supposed ──

@@ -1,0 +1,15 @@
+// What a process makes of the messages that it received: the vote on a read, and the halt count.
+//
+// Read on in this order: `ballot` (one message after another), `count` (what a ballot says),
+// `tally` (over a lent list). The definitions are those of crates/rules, specs/Vote.antt.
+mod ballot;
+mod count;
+mod tally;
+
+pub use ballot::Ballot;
+pub use count::HaltAnswer;
+pub use count::VoteAnswer;
+pub use tally::count_halts;
+pub use tally::count_halts_in;
+pub use tally::vote;
+pub use tally::vote_in;
