@@ -11,10 +11,10 @@ use borrow.Author.Tests.{eqb-true, eq-eqb, leb-true, leb-false, ltb-true, not-tr
 use Rattle.record.specs.declared.clock.Timestamp.{Timestamp}
 use Rattle.record.specs.declared.clock.LocalTime.{LocalTime}
 use Rattle.record.specs.declared.request.Request.{Request}
 use Rattle.rules.specs.Lists.{keep}
 use Rattle.rules.specs.Replica.{stamped, lowest, least, requestsOf, ofGroup, groupTimestamp, batchOf, others, earliest, isStable}
 use Rattle.rules.specs.declared.Pending.{Pending}
-use Rattle.rules.proofs.Lists.{case, true-not-false, keep-in, in-keep, keep-none, keep-parts, keep-both, keep-keep, in-length, map-in}
+use Rattle.laws.proofs.Lists.{case, true-not-false, keep-in, in-keep, keep-none, keep-parts, keep-both, keep-keep, in-length, map-in}
 
 -- ── the least timestamp ──
 

@@ -14,16 +14,16 @@ use Rattle.record.specs.Record.{requestQuestions, requestIn, readWith, readRequ
 use Rattle.record.specs.declared.clock.LocalTime.{LocalTime}
 use Rattle.record.specs.declared.request.Request.{Request}
 use Rattle.question.proofs.Questions.{ask-all-yes, ask-through, within-true}
 use Rattle.rules.specs.Batch.{Settings, Store, newStore, handle}
 use Rattle.rules.specs.Replica.{State, Stepped, newState, timeQuestions, admit, arrive, deliver, requestsOf, groupTimestamp, batchOf, handleBatch, visits, atTime, stepped, step}
 use Rattle.rules.specs.Run.{Call, delivery, turn, sentBy, call, run, arrived, arrivalOf, arrivals}
 use Rattle.rules.specs.declared.Pending.{Pending}
-use Rattle.rules.proofs.Lists.{map-in}
-use Rattle.rules.proofs.Least.{batchAt-in}
-use Rattle.rules.proofs.Visits.{visits-all}
-use Rattle.rules.proofs.Keeps.{Keeps, batch-keeps}
-use Rattle.rules.proofs.Step.{step-accepted}
-use Rattle.rules.proofs.Senders.{Change, kept, fails, performs, performed-by-all}
+use Rattle.laws.proofs.Lists.{map-in}
+use Rattle.laws.proofs.Least.{batchAt-in}
+use Rattle.laws.proofs.Visits.{visits-all}
+use Rattle.laws.proofs.Keeps.{Keeps, batch-keeps}
+use Rattle.laws.proofs.Step.{step-accepted}
+use Rattle.laws.proofs.Senders.{Change, kept, fails, performs, performed-by-all}
 
 -- ── what is admitted ──
 

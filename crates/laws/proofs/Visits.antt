@@ -5,9 +5,9 @@ use mathlib.Core.Path.{_≡_}
 use mathlib.Core.Bool.{true}
 use lib.ListN.{length}
 use Rattle.record.specs.declared.clock.LocalTime.{LocalTime}
 use Rattle.rules.specs.Batch.{Effect, still, follow}
 use Rattle.rules.specs.Replica.{State, batchOf, isStable, handleBatch, visit, visits}
-use Rattle.rules.proofs.Lists.{case}
+use Rattle.laws.proofs.Lists.{case}
 
 module _ (now : LocalTime) (P : State → Effect State → Type 0)
     (nothing : (s : State) → P s (still s))

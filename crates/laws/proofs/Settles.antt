@@ -8,13 +8,13 @@ use lib.Dec.{eqb}
 use lib.ListN.{length}
 use borrow.Author.Tests.{eqb-true, eqb-false}
 use Rattle.record.specs.declared.clock.LocalTime.{LocalTime}
 use Rattle.rules.specs.Lists.{keep}
 use Rattle.rules.specs.Replica.{State, ofGroup, batchOf, isStable, handleBatch, visit, visits}
 use Rattle.rules.specs.declared.Pending.{Pending}
-use Rattle.rules.proofs.Lists.{case}
-use Rattle.rules.proofs.Least.{stable-some, others-fewer, others-other}
-use Rattle.rules.proofs.Visits.{visit-all}
-use Rattle.rules.proofs.Keeps.{visits-keep}
+use Rattle.laws.proofs.Lists.{case}
+use Rattle.laws.proofs.Least.{stable-some, others-fewer, others-other}
+use Rattle.laws.proofs.Visits.{visit-all}
+use Rattle.laws.proofs.Keeps.{visits-keep}
 
 -- each handled batch takes a request off or more, so as many looks as there are pending requests are enough
 pub visit-settles : (group : ℕ) (now : LocalTime) (looks : ℕ) (s : State) → length (s .pending) ≤ looks

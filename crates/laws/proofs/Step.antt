@@ -13,14 +13,14 @@ use Rattle.record.specs.declared.clock.Timestamp.{Timestamp}
 use Rattle.record.specs.declared.clock.LocalTime.{LocalTime}
 use Rattle.record.specs.declared.message.Message.{Message}
 use Rattle.question.proofs.Questions.{ask-through}
 use Rattle.rules.specs.Batch.{newStore, handle}
 use Rattle.rules.specs.Replica.{State, Stepped, timeQuestions, batchOf, isStable, handleBatch, visit, visits, atTime, stepped, step}
 use Rattle.rules.specs.declared.Pending.{Pending}
-use Rattle.rules.proofs.Least.{batchAt}
-use Rattle.rules.proofs.Keeps.{Keeps, visits-keep}
-use Rattle.rules.proofs.Settles.{visits-settle}
-use Rattle.rules.proofs.Owes.{Owed, visits-owe}
-use Rattle.rules.proofs.Count.{visits-cost}
+use Rattle.laws.proofs.Least.{batchAt}
+use Rattle.laws.proofs.Keeps.{Keeps, visits-keep}
+use Rattle.laws.proofs.Settles.{visits-settle}
+use Rattle.laws.proofs.Owes.{Owed, visits-owe}
+use Rattle.laws.proofs.Count.{visits-cost}
 
 -- an accepted step gives what the rules make of the state, the time and the output
 pub step-accepted : (s : State) (now : LocalTime) (output : List ℕ) {d : Stepped} → step s now output ≡ given d → d ≡ stepped s now output

@@ -9,12 +9,12 @@ use lib.ListN.{length, length-set}
 use Rattle.record.specs.declared.clock.Timestamp.{Timestamp}
 use Rattle.record.specs.declared.clock.LocalTime.{LocalTime}
 use Rattle.record.specs.declared.request.Request.{Request}
 use Rattle.rules.specs.Batch.{Settings, Store, failed, perform, allReads, unanimous, handle}
 use Rattle.rules.specs.Replica.{State, requestsOf, groupTimestamp, batchOf, handleBatch, visits}
 use Rattle.rules.specs.declared.Pending.{Pending}
-use Rattle.rules.proofs.Lists.{case}
-use Rattle.rules.proofs.Least.{others-in, others-batch}
-use Rattle.rules.proofs.Visits.{visits-all}
+use Rattle.laws.proofs.Lists.{case}
+use Rattle.laws.proofs.Least.{others-in, others-batch}
+use Rattle.laws.proofs.Visits.{visits-all}
 
 -- t is s, but for the variables' values, the writes performed, and requests that are no longer pending
 pub record Keeps (s t : State) : Type 0 where

@@ -9,14 +9,14 @@ use Rattle.record.specs.declared.clock.Timestamp.{Timestamp}
 use Rattle.record.specs.declared.clock.LocalTime.{LocalTime}
 use Rattle.record.specs.declared.request.Request.{Request}
 use Rattle.record.specs.declared.message.Message.{Message}
 use Rattle.rules.specs.Lists.{upTo}
 use Rattle.rules.specs.Batch.{Settings, Store, Effect, still, follow, failed, allReads, unanimous, replyTo, haltTo, handle}
 use Rattle.rules.specs.Replica.{State, requestsOf, groupTimestamp, batchOf, isStable, handleBatch, visits}
 use Rattle.rules.specs.declared.Pending.{Pending}
-use Rattle.rules.proofs.Lists.{case, true-not-false, map-in}
-use Rattle.rules.proofs.Least.{stable-hit, batchAt, batchAt-in, others-none, others-whole}
-use Rattle.rules.proofs.Visits.{visits-all}
-use Rattle.rules.proofs.Keeps.{Keeps, keeps-same, keeps-then, batch-keeps}
+use Rattle.laws.proofs.Lists.{case, true-not-false, map-in}
+use Rattle.laws.proofs.Least.{stable-hit, batchAt, batchAt-in, others-none, others-whole}
+use Rattle.laws.proofs.Visits.{visits-all}
+use Rattle.laws.proofs.Keeps.{Keeps, keeps-same, keeps-then, batch-keeps}
 
 -- the messages for a batch have its group and its timestamp
 pub handle-sent : (u : Settings) (replica group : ℕ) (t : Timestamp) (batch : List Request) (s : Store)

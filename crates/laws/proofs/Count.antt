@@ -11,14 +11,14 @@ use borrow.Author.Tests.{eq-eqb, not-true}
 use Rattle.record.specs.declared.clock.Timestamp.{Timestamp}
 use Rattle.record.specs.declared.clock.LocalTime.{LocalTime}
 use Rattle.record.specs.declared.request.Request.{Request}
 use Rattle.rules.specs.Lists.{upTo}
 use Rattle.rules.specs.Batch.{Settings, Store, Effect, still, follow, failed, perform, fail, allReads, unanimous, replyTo, haltTo, haltAll, handle}
 use Rattle.rules.specs.Replica.{State, requestsOf, groupTimestamp, batchOf, isStable, handleBatch, visits}
 use Rattle.rules.specs.declared.Pending.{Pending}
-use Rattle.rules.proofs.Lists.{case, length-upTo}
-use Rattle.rules.proofs.Least.{stable-some, others-batch}
-use Rattle.rules.proofs.Visits.{visits-all}
-use Rattle.rules.proofs.Keeps.{Keeps, keeps-same, keeps-then, batch-keeps}
+use Rattle.laws.proofs.Lists.{case, length-upTo}
+use Rattle.laws.proofs.Least.{stable-some, others-batch}
+use Rattle.laws.proofs.Visits.{visits-all}
+use Rattle.laws.proofs.Keeps.{Keeps, keeps-same, keeps-then, batch-keeps}
 
 -- what a failure may still add to the number of messages
 abbrev pub spare : ℕ → Store → ℕ

@@ -1,0 +1,11 @@
+pub mod Lists
+pub mod Least
+pub mod Visits
+pub mod Keeps
+pub mod Settles
+pub mod Owes
+pub mod Count
+pub mod Step
+pub mod Senders
+pub mod Writers
+pub mod Ballot
