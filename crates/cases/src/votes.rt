@@ -1,0 +1,66 @@
+// Cases of the vote. hear: a message, put behind those that were heard. clear: none is heard.
+// vote: k, N, group, process, variable, timestamp. halts: k, N, group, process.
+use crate::script::Scan;
+use record::Message;
+use record::Timestamp;
+use rules::Query;
+use vote::HaltAnswer;
+use vote::VoteAnswer;
+
+pub struct Heard {
+    pub list: [Message; 65],
+    pub count: usize,
+}
+
+pub(crate) fn none() -> Heard {
+    let blank = Message {
+        kind: 0,
+        group: 0,
+        process: 0,
+        replica: 0,
+        variable: 0,
+        timestamp: Timestamp(0),
+        value: 0,
+    };
+    let list = [blank; 65];
+    Heard { list, count: 0 }
+}
+
+pub(crate) fn hear(s: Scan, h: Heard) -> Heard {
+    let i = h.count;
+    if 65 <= i {
+        return h;
+    }
+    let mut next = h;
+    next.list[i] = crate::records::message_from(s, 0);
+    next.count = i + 1;
+    next
+}
+
+pub(crate) fn show_vote(s: Scan, h: Heard) {
+    let q = Query {
+        group: s.byte(2),
+        process: s.byte(3),
+        variable: s.short(4),
+        timestamp: Timestamp(s.number(5)),
+    };
+    let list = h.list;
+    match vote::vote_in(s.byte(0), s.byte(1), q, list, h.count) {
+        VoteAnswer::Value(x) => {
+            io::write_all(1, b" -> value");
+            crate::show::number(x as u64);
+        }
+        VoteAnswer::Refused(n) => crate::show::refused(n),
+    }
+}
+
+pub(crate) fn show_halts(s: Scan, h: Heard) {
+    let list = h.list;
+    match vote::count_halts_in(s.byte(0), s.byte(1), s.byte(2), s.byte(3), list, h.count) {
+        HaltAnswer::Count(n) => {
+            io::write_all(1, b" -> count");
+            crate::show::number(n as u64);
+        }
+        HaltAnswer::Refused(n) => crate::show::refused(n),
+    }
+}
