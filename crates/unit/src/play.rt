@@ -1,0 +1,71 @@
+// What a record of the journal does to its replica.
+ghost use mathlib.Core.Path.{_≡_};
+ghost use lib.ListN.{take, drop};
+ghost use Rattle.question.specs.Question.{given, bind, after, verdict, outcome};
+ghost use Rattle.rules.specs.Replica.{deliver};
+ghost use Rattle.replica.specs.State.{stateOf, stepAnswer};
+ghost use Rattle.unit.specs.Entry.{entryAnswer, playOn};
+use crate::entry::EntryRead;
+use question::Outcome;
+use record::LocalTime;
+use replica::Delivered;
+use replica::Replica;
+use replica::StepAnswer;
+
+pub struct Played {
+    pub answer: StepAnswer,
+    pub replica: Replica,
+}
+
+// A delivery of bytes 16 to 39; a shorter record has those that it has.
+fn deliver_part(r: Replica, at: LocalTime, bytes: &[u8]) -> Delivered
+    ensures answer { λ d. ⌜ outcome (d .outcome) ≡ verdict (deliver (stateOf r) (take 24 (drop 16 (now (bytes .entry)))) at) ⌝ }
+    ensures state { λ d. ⌜ stateOf (d .replica) ≡ after (stateOf r) (deliver (stateOf r) (take 24 (drop 16 (now (bytes .entry)))) at) ⌝ }
+{
+    if bytes.len() < 16 {
+        return replica::deliver(r, &bytes[0..0], at);
+    }
+    if bytes.len() < 40 {
+        return replica::deliver(r, &bytes[16..], at);
+    }
+    replica::deliver(r, &bytes[16..40], at)
+}
+
+fn play_delivery(r: Replica, at: LocalTime, bytes: &[u8]) -> Played {
+    let d = deliver_part(r, at, bytes);
+    let replica = d.replica;
+    let outcome = d.outcome;
+    match outcome {
+        Outcome::Done => Played {
+            answer: StepAnswer::Sent(0),
+            replica,
+        },
+        Outcome::Refused(number) => Played {
+            answer: StepAnswer::Refused(number),
+            replica,
+        },
+    }
+}
+
+fn play_turn(r: Replica, at: LocalTime, output: &mut [u8]) -> Played {
+    let s = replica::step(r, at, output);
+    let answer = s.answer;
+    let replica = s.replica;
+    Played { answer, replica }
+}
+
+// A record that was read, played on the replica that it names.
+pub fn play_entry(r: Replica, e: EntryRead, bytes: &[u8], output: &mut [u8]) -> Played
+    ensures answer { λ p. ⌜ stepAnswer (p .answer) ≡ bind (playOn (stateOf r) (entryAnswer (now (bytes .entry)) e) (now (output .entry))) (λ d. given (d .count)) ⌝ }
+    ensures state { λ p. ⌜ stateOf (p .replica) ≡ after (stateOf r) (bind (playOn (stateOf r) (entryAnswer (now (bytes .entry)) e) (now (output .entry))) (λ d. given (d .state))) ⌝ }
+    ensures output { λ p. ⌜ now (output .exit) ≡ after (now (output .entry)) (bind (playOn (stateOf r) (entryAnswer (now (bytes .entry)) e) (now (output .entry))) (λ d. given (d .output))) ⌝ }
+{
+    match e {
+        EntryRead::Delivery(_, at) => play_delivery(r, at, bytes),
+        EntryRead::Turn(_, at) => play_turn(r, at, output),
+        EntryRead::Refused(number) => Played {
+            answer: StepAnswer::Refused(number),
+            replica: r,
+        },
+    }
+}
