@@ -17,8 +17,8 @@ joined (text ∷ texts) = text ++ joined texts
 
 -- records of 40 bytes, the last one as long as it is; no more of them than bytes
 abbrev pub recordsOf : ℕ → List ℕ → List (List ℕ)
-recordsOf most [] = []
-recordsOf zero (b ∷ input) = []
+recordsOf zero input = []
+recordsOf (suc most) [] = []
 recordsOf (suc most) (b ∷ input) = take 40 (b ∷ input) ∷ recordsOf most (drop 40 (b ∷ input))
 
 abbrev pub replicaFor : Entry → ℕ
