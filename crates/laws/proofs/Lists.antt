@@ -1,9 +1,9 @@
 -- Laws of keep, every, some, upTo and tally.
 use Prim.Native.Nat.{ℕ, zero, suc, _+_, _≤_, _<_}
-use mathlib.Core.Path.{_≡_, refl, _∙_, ap}
+use mathlib.Core.Path.{_≡_, refl, sym, _∙_, ap}
 use mathlib.Core.Logic.{_⊎_, inl, inr, ⊎-elim}
 use mathlib.Core.Bool.{Bool, true, false, not, cond, _&&_, _||_, and-eq-true-iff}
-use mathlib.Core.List.{List, [], _∷_, map, List·Memᴰ, List·Memᴰ·head, List·Memᴰ·tail, List·Memᴰ·cases-cons, List·Memᴰ·not-nil}
+use mathlib.Core.List.{List, [], _∷_, _++_, map, List·Memᴰ, List·Memᴰ·head, List·Memᴰ·tail, List·Memᴰ·cases-cons, List·Memᴰ·not-nil, List·Memᴰ·append-cases, List·Memᴰ·eq-of-singleton, Memᴰ·append-left, Memᴰ·append-right}
 use native.Mathlib.Omega.{arith}
 use lib.Dec.{eqb}
 use lib.ListN.{length, length-append}
@@ -20,6 +20,17 @@ case false f g = g refl
 -- a test does not come out both ways
 pub true-not-false : {A : Type 0} (b : Bool) → b ≡ true → b ≡ false → A
 true-not-false b p q = absurd (let z : _≡_ {A = ℕ} 0 1 = cc in omega arith)
+
+-- tests that imply each other come out alike
+pub same-test : (a b : Bool) → (a ≡ true → b ≡ true) → (b ≡ true → a ≡ true) → a ≡ b
+same-test true b f g = sym (f refl)
+same-test false true f g = g refl
+same-test false false f g = refl
+
+-- a test that cannot fail passes
+pub not-fails : (b : Bool) → (b ≡ false → ⊥) → b ≡ true
+not-fails true h = refl
+not-fails false h = absurd (h refl)
 
 -- ── lists ──
 
@@ -47,6 +58,14 @@ module _ {A : Type 0} where
   keep-none p [] h = refl
   keep-none p (x ∷ l) h = rw (h x (List·Memᴰ·head refl)) (keep-none p l (λ y m. h y (List·Memᴰ·tail m)))
 
+  pub keep-all : (p : A → Bool) (l : List A) → ((x : A) → List·Memᴰ x l → p x ≡ true) → keep p l ≡ l
+  keep-all p [] h = refl
+  keep-all p (x ∷ l) h = rw (h x (List·Memᴰ·head refl)) (ap (λ t. x ∷ t) (keep-all p l (λ y m. h y (List·Memᴰ·tail m))))
+
+  pub keep-append : (p : A → Bool) (a b : List A) → keep p (a ++ b) ≡ keep p a ++ keep p b
+  keep-append p [] b = refl
+  keep-append p (x ∷ a) b = let h = keep-append p a b in case (p x) (λ e. rw (e, h)) (λ e. rw e h)
+
   -- a list is split into what passes and what does not
   pub keep-parts : (p : A → Bool) (l : List A) → length (keep (λ x. not (p x)) l) + length (keep p l) ≡ length l
   keep-parts p [] = refl
@@ -67,6 +86,20 @@ module _ {A : Type 0} where
       (λ e. rw (e, keep-keep p q l h))
       (λ e. rw e (case (p x) (λ f. true-not-false (q x) (h x f) e) (λ f. rw f (keep-keep p q l h))))
 
+  -- the order of two tests makes no difference
+  pub keep-swap : (p q : A → Bool) (l : List A) → keep p (keep q l) ≡ keep q (keep p l)
+  keep-swap p q [] = refl
+  keep-swap p q (x ∷ l) =
+      let h = keep-swap p q l in
+      case (q x)
+      (λ e. case (p x) (λ f. rw (e, f, e, h)) (λ f. rw (e, f) h))
+      (λ e. case (p x) (λ f. rw (e, f, e) h) (λ f. rw (e, f) h))
+
+  -- a list with no member is empty
+  pub no-member : (l : List A) → ((x : A) → List·Memᴰ x l → ⊥) → l ≡ []
+  no-member [] h = refl
+  no-member (x ∷ l) h = absurd (h x (List·Memᴰ·head refl))
+
   -- a list with a member is not empty
   pub in-length : (l : List A) {x : A} → List·Memᴰ x l → 0 < length l
   in-length [] m = absurd (List·Memᴰ·not-nil m)
@@ -82,6 +115,10 @@ module _ {A B : Type 0} (f : A → B) where
       go h (inl q) = (x, List·Memᴰ·head refl, q)
       go h (inr n) = let r = h n in (r .0, List·Memᴰ·tail (r .1), r .2)
 
+  pub map-keep : (p : B → Bool) (l : List A) → keep p (map f l) ≡ map f (keep (λ x. p (f x)) l)
+  map-keep p [] = refl
+  map-keep p (x ∷ l) = case (p (f x)) (λ e. rw e (ap (λ t. f x ∷ t) (map-keep p l))) (λ e. rw e (map-keep p l))
+
 module _ {A : Type 0} (p : A → Bool) where
   pub every-in : (l : List A) → every p l ≡ true → (x : A) → List·Memᴰ x l → p x ≡ true
   every-in [] e x m = absurd (List·Memᴰ·not-nil m)
@@ -89,19 +126,57 @@ module _ {A : Type 0} (p : A → Bool) where
       let a = and-eq-true-iff (p y) (every p l) .0 e in
       ⊎-elim (λ (q : x ≡ y). rw q (a .0)) (λ (n : List·Memᴰ x l). every-in l (a .1) x n) (List·Memᴰ·cases-cons m)
 
+  pub in-every : (l : List A) → ((x : A) → List·Memᴰ x l → p x ≡ true) → every p l ≡ true
+  in-every [] h = refl
+  in-every (y ∷ l) h = rw (h y (List·Memᴰ·head refl)) (in-every l (λ x m. h x (List·Memᴰ·tail m)))
+
   pub some-in : (l : List A) → some p l ≡ true → (x : A) × List·Memᴰ x l × (p x ≡ true)
   some-in [] e = true-not-false false e refl
   some-in (y ∷ l) e = case (p y) (λ a. (y, List·Memᴰ·head refl, a)) (λ a. let r = some-in l (rw a at e) in (r .0, List·Memᴰ·tail (r .1), r .2))
 
+  pub in-some : (l : List A) (x : A) → List·Memᴰ x l → p x ≡ true → some p l ≡ true
+  in-some l x (List·Memᴰ·head q) e = rw (← q, e)
+  in-some l x (List·Memᴰ·tail {x = y} {xs = ys} m) e =
+      rw (in-some ys x m e) (elim (p y) as (λ t. t || true ≡ true) [ true ↦ refl | false ↦ refl ])
+
+-- ── 1 to n ──
+
 pub length-upTo : (n : ℕ) → length (upTo n) ≡ n
 length-upTo zero = refl
 length-upTo (suc n) = omega (arith, length-append (upTo n) (suc n ∷ []), length-upTo n)
+
+pub upTo-in : (n : ℕ) {i : ℕ} → List·Memᴰ i (upTo n) → (1 ≤ i) × (i ≤ n)
+upTo-in zero m = absurd (List·Memᴰ·not-nil m)
+upTo-in (suc n) {i} m = ⊎-elim
+    (λ (a : List·Memᴰ i (upTo n)). let r = upTo-in n a in (r .0, omega (arith, r .1)))
+    (λ (a : List·Memᴰ i (suc n ∷ [])). let e = List·Memᴰ·eq-of-singleton a in (omega arith, omega arith))
+    (List·Memᴰ·append-cases (upTo n) m)
+
+pub in-upTo : (n i : ℕ) → 1 ≤ i → i ≤ n → List·Memᴰ i (upTo n)
+in-upTo zero i low high = absurd (omega arith)
+in-upTo (suc n) i low high = case (eqb i (suc n))
+    (λ e. Memᴰ·append-right (upTo n) (List·Memᴰ·head (eqb-true i (suc n) e)))
+    (λ e. Memᴰ·append-left (suc n ∷ []) (in-upTo n i low (omega (arith, eqb-false i (suc n) e))))
 
 -- ── how many of 1 to n ──
 
 pub tally-bound : (p : ℕ → Bool) (n : ℕ) → tally p n ≤ n
 tally-bound p zero = omega arith
 tally-bound p (suc n) = let h = tally-bound p n in case (p (suc n)) (λ e. rw e (omega arith)) (λ e. rw e (omega arith))
+
+-- what a weaker test lets pass is at least as many
+pub tally-weaker : (p q : ℕ → Bool) (n : ℕ) → ((i : ℕ) → 1 ≤ i → i ≤ n → p i ≡ true → q i ≡ true) → tally p n ≤ tally q n
+tally-weaker p q zero h = omega arith
+tally-weaker p q (suc n) h =
+    let r = tally-weaker p q n (λ i a b. h i a (omega arith)) in
+    case (p (suc n))
+    (λ a. rw (a, h (suc n) (omega arith) (omega arith) a) (omega arith))
+    (λ a. rw a (case (q (suc n)) (λ b. rw b (omega arith)) (λ b. rw b r)))
+
+-- each of 1 to n passes or does not
+pub tally-parts : (p : ℕ → Bool) (n : ℕ) → tally p n + tally (λ i. not (p i)) n ≡ n
+tally-parts p zero = refl
+tally-parts p (suc n) = let r = tally-parts p n in case (p (suc n)) (λ a. rw a (omega arith)) (λ a. rw a (omega arith))
 
 -- where any pass, one does
 pub tally-hit : (p : ℕ → Bool) (n : ℕ) → 0 < tally p n → (i : ℕ) × (1 ≤ i) × (i ≤ n) × (p i ≡ true)

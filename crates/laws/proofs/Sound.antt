@@ -1,0 +1,202 @@
+-- What a replica's state keeps: its pending requests passed the questions, and its variables are 256 of 32 bits, of which variable 0
+-- is 0 or 1. So each message that a step sends passes the questions of a record.
+use Prim.Native.Nat.{ℕ, zero, suc, _+_, _*_, _^_, _≤_, _<_}
+use mathlib.Core.Path.{_≡_, refl, sym, _∙_, subst}
+use mathlib.Core.Logic.{_≢_, ⊎-elim}
+use mathlib.Core.Bool.{true, false, not, _&&_, and-eq-true-iff}
+use mathlib.Core.List.{List, [], _∷_, List·Memᴰ, List·Memᴰ·head, List·Memᴰ·not-nil, List·Memᴰ·append-cases}
+use native.Mathlib.Omega.{arith}
+use lib.Dec.{eqb}
+use lib.ListN.{length, getD, set, replicate, length-set, length-replicate}
+use lib.Seq.{getD-set-same, getD-set-other}
+use Rattle.record.specs.Record.{messageQuestions}
+use Rattle.record.specs.declared.clock.Timestamp.{Timestamp}
+use Rattle.record.specs.declared.clock.LocalTime.{LocalTime}
+use Rattle.record.specs.declared.request.Request.{Request}
+use Rattle.rules.specs.Lists.{every, upTo}
+use Rattle.rules.specs.Batch.{Settings, Store, Effect, follow, newStore, valueOf, failed, isWrite, allReads, allSame, allSendersDiffer, unanimous, perform, fail, replyTo, haltTo, handle}
+use Rattle.rules.specs.Replica.{State, newState, requestsOf, groupTimestamp, batchOf, isStable, handleBatch, visits}
+use Rattle.rules.specs.declared.Pending.{Pending}
+use Rattle.laws.proofs.Lists.{case, every-in, map-in, upTo-in}
+use Rattle.laws.proofs.Least.{stable-hit, batchAt-in}
+use Rattle.laws.proofs.Visits.{visits-all}
+use Rattle.laws.proofs.Keeps.{Keeps, batch-keeps, handle-variables}
+use Rattle.laws.proofs.Records.{Sendable, AllSendable}
+use Rattle.laws.proofs.Accepted.{in-within, Made, Proper}
+
+-- ── the store ──
+
+pub record InOrder (s : Store) : Type 0 where
+  pub variables : length (s .variables) ≡ 256
+  pub values : (i : ℕ) → valueOf i s < 256 ^ 4
+  pub mark : valueOf 0 s ≤ 1
+
+pub new-in-order : InOrder newStore
+new-in-order = record { variables = length-replicate {A = ℕ} 256 0; values = λ i. rw (zeros 256 i) (omega arith); mark = omega arith }
+  where
+    zeros : (n i : ℕ) → _≡_ {A = ℕ} (getD (replicate n 0) i 0) 0
+    zeros zero i = refl
+    zeros (suc n) zero = refl
+    zeros (suc n) (suc i) = zeros n i
+
+set-below : (b : ℕ) (l : List ℕ) (j x : ℕ) → x < b → ((i : ℕ) → getD l i 0 < b) → (i : ℕ) → getD (set l j x) i 0 < b
+set-below b [] j x h k i = k i
+set-below b (y ∷ l) zero x h k zero = h
+set-below b (y ∷ l) zero x h k (suc i) = k (suc i)
+set-below b (y ∷ l) (suc j) x h k zero = k 0
+set-below b (y ∷ l) (suc j) x h k (suc i) = set-below b l j x h (λ n. k (suc n)) i
+
+-- the batch is of writes where it is unanimous
+pub unanimous-writes : (k : ℕ) (batch : List Request) → unanimous k batch ≡ true → every isWrite batch ≡ true
+unanimous-writes k batch e =
+    let a = and-eq-true-iff (eqb (length batch) (k + 1) && every isWrite batch && allSendersDiffer batch) (allSame batch) .0 e in
+    let b = and-eq-true-iff (eqb (length batch) (k + 1) && every isWrite batch) (allSendersDiffer batch) .0 (a .0) in
+    and-eq-true-iff (eqb (length batch) (k + 1)) (every isWrite batch) .0 (b .0) .1
+
+-- a performed write leaves variable 0
+pub perform-mark : (batch : List Request) (s : Store) → every isWrite batch ≡ true
+    → ((r : Request) → List·Memᴰ r batch → isWrite r ≡ true → 1 ≤ r .variable) → valueOf 0 (perform batch s) ≡ valueOf 0 s
+perform-mark [] s e h = refl
+perform-mark (r ∷ batch) s e h =
+    let low = h r (List·Memᴰ·head refl) (every-in isWrite (r ∷ batch) e r (List·Memᴰ·head refl)) in
+    let apart : 0 ≢ r .variable = omega arith in
+    getD-set-other (s .variables) (r .variable) 0 (r .value) 0 apart
+
+perform-values : (batch : List Request) (s : Store) → ((r : Request) → List·Memᴰ r batch → r .value < 256 ^ 4) → ((i : ℕ) → valueOf i s < 256 ^ 4)
+    → (i : ℕ) → valueOf i (perform batch s) < 256 ^ 4
+perform-values [] s small h i = h i
+perform-values (r ∷ batch) s small h i = set-below (256 ^ 4) (s .variables) (r .variable) (r .value) (small r (List·Memᴰ·head refl)) h i
+
+-- handling a batch of accepted requests keeps the store in order
+handle-in-order : (u : Settings) (replica group : ℕ) (t : Timestamp) (batch : List Request) (s : Store)
+    → ((r : Request) → List·Memᴰ r batch → Proper (u .k) (u .groups) r) → InOrder s → InOrder (handle u replica group t batch s .state)
+unfolding handle
+handle-in-order u replica group t batch s proper h =
+    case (allReads batch) (λ a. rw a h)
+    (λ a. case (unanimous (u .k) batch && eqb group (u .owner) && not (failed s)) (λ b. rw (a, b) (performed b (many a b)))
+    (λ b. case (eqb group (u .owner) && not (failed s)) (λ c. rw (a, b, c) failing) (λ c. rw (a, b, c) h)))
+  where
+    many : allReads batch ≡ false → unanimous (u .k) batch && eqb group (u .owner) && not (failed s) ≡ true
+        → length (perform batch s .variables) ≡ 256
+    many a b = rw (a, b) at (handle-variables u replica group t batch s) ∙ h .variables
+
+    performed : unanimous (u .k) batch && eqb group (u .owner) && not (failed s) ≡ true → length (perform batch s .variables) ≡ 256
+        → InOrder (perform batch s)
+    performed b long =
+        let a = and-eq-true-iff (unanimous (u .k) batch && eqb group (u .owner)) (not (failed s)) .0 b in
+        let c = and-eq-true-iff (unanimous (u .k) batch) (eqb group (u .owner)) .0 (a .0) in
+        record {
+          variables = long;
+          values = perform-values batch s (λ r i. proper r i .value) (h .values);
+          mark = rw (perform-mark batch s (unanimous-writes (u .k) batch (c .0)) (λ r i. proper r i .written)) (h .mark);
+        }
+
+    failing : InOrder (fail s)
+    failing = record {
+      variables = length-set (s .variables) 0 1 ∙ h .variables;
+      values = set-below (256 ^ 4) (s .variables) 0 1 (omega arith) (h .values);
+      mark = rw (getD-set-same (s .variables) 0 1 0 (omega (arith, h .variables))) (omega arith);
+    }
+
+-- ── the state ──
+
+module _ (u : Settings) (me : ℕ) where
+  pub record Sound (s : State) : Type 0 where
+    pub settings : s .settings ≡ u
+    pub number : s .number ≡ me
+    pub pending : (p : Pending) → List·Memᴰ p (s .pending) → Proper (u .k) (u .groups) (p .request)
+    pub few : length (s .pending) ≤ 64
+    pub store : InOrder (s .store)
+
+  pub new-sound : Sound (newState u me)
+  new-sound = record { settings = refl; number = refl; pending = λ p i. absurd (List·Memᴰ·not-nil i); few = omega arith; store = new-in-order }
+
+  -- what is done keeps the state sound, and sends messages that pass
+  abbrev pub Soundly : State → Effect State → Type 0
+  Soundly s e = Sound s → Sound (e .state) × AllSendable (u .k) (u .groups) (e .sent)
+
+  soundly-then : (s : State) (e : Effect State) (next : State → Effect State)
+      → Soundly s e → Soundly (e .state) (next (e .state)) → Soundly s (follow e next)
+  soundly-then s e next a b h =
+      let x = a h in
+      let y = b (x .0) in
+      (y .0, λ m i. ⊎-elim (λ j. x .1 m j) (λ j. y .1 m j) (List·Memᴰ·append-cases (e .sent) i))
+
+-- ── what a step sends ──
+
+module _ (u : Settings) (me : ℕ) (ok : Made u me) where
+  reply-sendable : (s : Store) (r : Request) → InOrder s → Proper (u .k) (u .groups) r → Sendable (u .k) (u .groups) (replyTo s me r)
+  unfolding messageQuestions
+  reply-sendable s r h p =
+      let group = in-within 1 (u .groups) (r .group) (p .group-low) (p .group-high) in
+      let process = in-within 1 (u .k + 1) (r .process) (p .process-low) (p .process-high) in
+      let replica = in-within 1 (2 * u .k + 1) me (ok .number-low) (ok .number-high) in
+      let variable = in-within 0 255 (r .variable) (omega arith) (p .variable) in
+      record { fields = (refl, (group, (process, (replica, (variable, (refl, tt)))))); timestamp = p .timestamp; value = h .values (r .variable) }
+
+  halt-sendable : (g : ℕ) (t : Timestamp) (to : ℕ) → 1 ≤ g → g ≤ u .groups → t .0 < 256 ^ 8 → 1 ≤ to → to ≤ u .k + 1
+      → Sendable (u .k) (u .groups) (haltTo g me t to)
+  unfolding messageQuestions
+  halt-sendable g t to g-low g-high small low high =
+      let group = in-within 1 (u .groups) g g-low g-high in
+      let process = in-within 1 (u .k + 1) to low high in
+      let replica = in-within 1 (2 * u .k + 1) me (ok .number-low) (ok .number-high) in
+      record { fields = (refl, (group, (process, (replica, (refl, (refl, tt)))))); timestamp = small; value = omega arith }
+
+  handle-sendable : (group : ℕ) (t : Timestamp) (batch : List Request) (s : Store) → InOrder s → 1 ≤ group → group ≤ u .groups → t .0 < 256 ^ 8
+      → ((r : Request) → List·Memᴰ r batch → Proper (u .k) (u .groups) r) → AllSendable (u .k) (u .groups) (handle u me group t batch s .sent)
+  unfolding handle
+  handle-sendable group t batch s h low high small proper m i =
+      case (allReads batch) (λ a. let r = map-in (replyTo s me) batch (rw a at i) in rw (r .2) (reply-sendable s (r .0) h (proper (r .0) (r .1))))
+      (λ a. case (unanimous (u .k) batch && eqb group (u .owner) && not (failed s)) (λ b. absurd (List·Memᴰ·not-nil (rw (a, b) at i)))
+      (λ b. case (eqb group (u .owner) && not (failed s))
+      (λ c.
+      let r = map-in (haltTo group me t) (upTo (u .k + 1)) (rw (a, b, c) at i) in
+      let p = upTo-in (u .k + 1) (r .1) in
+      rw (r .2) (halt-sendable group t (r .0) low high small (p .0) (p .1)))
+      (λ c. absurd (List·Memᴰ·not-nil (rw (a, b, c) at i)))))
+
+  batch-soundly : (now : LocalTime) (group : ℕ) (s : State) → isStable (s .settings .delta) now (batchOf group (s .pending)) ≡ true
+      → Soundly u me s (handleBatch group s)
+  unfolding handleBatch
+  batch-soundly now group s stable h = (after, sent)
+    where
+      t : Timestamp
+      t = groupTimestamp group (s .pending)
+
+      batch : List Request
+      batch = requestsOf (batchOf group (s .pending))
+
+      proper : (r : Request) → List·Memᴰ r batch → Proper (u .k) (u .groups) r
+      proper r i =
+          let a = map-in (λ (p : Pending). p .request) (batchOf group (s .pending)) i in
+          let b = batchAt-in group t (s .pending) (a .1) in
+          rw (a .2) (h .pending (a .0) (b .0))
+
+      keeps : Keeps s (handleBatch group s .state)
+      keeps = batch-keeps group s
+
+      after : Sound u me (handleBatch group s .state)
+      after = record {
+        settings = h .settings;
+        number = h .number;
+        pending = λ p i. h .pending p (keeps .pending p i);
+        few = omega (arith, h .few, keeps .fewer);
+        store =
+            subst (λ (v : Settings). InOrder (handle v (s .number) group t batch (s .store) .state)) (sym (h .settings))
+            (handle-in-order u (s .number) group t batch (s .store) proper (h .store));
+      }
+
+      sent : AllSendable (u .k) (u .groups) (handleBatch group s .sent)
+      sent =
+          let a = stable-hit (s .settings .delta) now (batchOf group (s .pending)) stable in
+          let b = batchAt-in group t (s .pending) (a .1) in
+          let p = h .pending (a .0) (b .0) in
+          let low : 1 ≤ group = omega (arith, p .group-low, b .1) in
+          let high : group ≤ u .groups = omega (arith, p .group-high, b .1) in
+          let small : t .0 < 256 ^ 8 = omega (arith, p .timestamp, b .2) in
+          rw (h .settings, h .number) (handle-sendable group t batch (s .store) (h .store) low high small proper)
+
+  pub visits-soundly : (n : ℕ) (now : LocalTime) (s : State) → Soundly u me s (visits n now s)
+  visits-soundly n now s =
+      visits-all now (Soundly u me) (λ s h. (h, λ m i. absurd (List·Memᴰ·not-nil i))) (soundly-then u me) (batch-soundly now) n s
