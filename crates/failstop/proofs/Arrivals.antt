@@ -10,7 +10,7 @@ use Rattle.rules.specs.Lists.{keep}
 use Rattle.rules.specs.Batch.{Settings}
 use Rattle.rules.specs.Replica.{State, stamped, ofGroup, visits, atTime}
 use Rattle.rules.specs.Run.{Call, call, arrivalOf, arrivals}
-use Rattle.rules.specs.Suppose.{firstArrival, ArrivalRule}
+use Rattle.failstop.specs.Suppose.{firstArrival, ArrivalRule}
 use Rattle.rules.specs.declared.Pending.{Pending}
 use Rattle.laws.proofs.Lists.{case, keep-in, in-keep, keep-append}
 use Rattle.laws.proofs.Keeps.{visits-keep}

@@ -14,7 +14,7 @@ use Rattle.rules.specs.Lists.{every}
 use Rattle.rules.specs.Batch.{Settings, Effect}
 use Rattle.rules.specs.Replica.{State, Stepped, stamped, ofGroup, groupTimestamp, batchOf, earliest, isStable, visits, atTime, step}
 use Rattle.rules.specs.Run.{Call, delivery, turn, call, run, arrivalOf, arrivals}
-use Rattle.rules.specs.Suppose.{closesNow, closes}
+use Rattle.failstop.specs.Suppose.{closesNow, closes}
 use Rattle.rules.specs.declared.Pending.{Pending}
 use Rattle.laws.proofs.Lists.{case, true-not-false, no-member, keep-in, in-keep, every-in}
 use Rattle.laws.proofs.Least.{earliest-hit, batch-some}

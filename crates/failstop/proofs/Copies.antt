@@ -14,7 +14,7 @@ use Rattle.rules.specs.Batch.{Settings, Store, Effect}
 use Rattle.rules.specs.Replica.{State, newState, requestsOf, ofGroup}
 use Rattle.rules.specs.Run.{Call, delivery, turn, call, run, arrivalOf, arrivals}
 use Rattle.rules.specs.Machine.{machine, signedBy}
-use Rattle.rules.specs.Suppose.{Correct, messagesOf, arrivalsOf}
+use Rattle.failstop.specs.Suppose.{Correct, messagesOf, arrivalsOf}
 use Rattle.rules.specs.declared.Pending.{Pending}
 use Rattle.laws.proofs.Lists.{keep-in, in-keep, map-in, map-keep, tally-hit}
 use Rattle.laws.proofs.Bag.{perm-in, perm-map, bag-perm}

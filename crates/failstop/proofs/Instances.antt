@@ -20,7 +20,7 @@ use Rattle.rules.specs.Replica.{newState, make, admit, deliver, handleBatch, vi
 use Rattle.rules.specs.Run.{Call, delivery, turn, messagesIn, call, run, arrivals}
 use Rattle.rules.specs.Machine.{react, reactAll, machine}
 use Rattle.rules.specs.Vote.{vote, haltCount}
-use Rattle.rules.specs.Suppose.{closes, Correct, Authentic, Matches, CompleteForRead, CompleteForHalts}
+use Rattle.failstop.specs.Suppose.{closes, Correct, Authentic, Matches, CompleteForRead, CompleteForHalts}
 use Rattle.laws.proofs.Lists.{case, true-not-false}
 use Rattle.failstop.specs.Demand3.{Supposed, Demand3, queryOf}
 use Rattle.failstop.proofs.Computed.{Computed, computed-supposed, computed-authentic, computed-sent}

@@ -8,7 +8,7 @@ use Rattle.rules.specs.Batch.{Settings, Effect}
 use Rattle.rules.specs.Replica.{State, newState, requestsOf}
 use Rattle.rules.specs.Run.{Call, run, arrivals}
 use Rattle.rules.specs.Machine.{machine}
-use Rattle.rules.specs.Suppose.{ArrivalRule, Closed}
+use Rattle.failstop.specs.Suppose.{ArrivalRule, Closed}
 use Rattle.rules.specs.declared.Pending.{Pending}
 use Rattle.laws.proofs.Lists.{no-member}
 use Rattle.laws.proofs.Machine.{machine-from-new, machine-none}

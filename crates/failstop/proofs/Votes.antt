@@ -16,7 +16,7 @@ use Rattle.rules.specs.Batch.{Settings, newStore}
 use Rattle.rules.specs.Run.{Call}
 use Rattle.rules.specs.Machine.{machine}
 use Rattle.rules.specs.Vote.{passes, counts, says, elect, vote}
-use Rattle.rules.specs.Suppose.{Correct, Authentic, Matches, CompleteForRead, messagesOf}
+use Rattle.failstop.specs.Suppose.{Correct, Authentic, Matches, CompleteForRead, messagesOf}
 use Rattle.laws.proofs.Machine.{machine-from-new}
 use Rattle.laws.proofs.Replies.{before, replyAt, machine-value, machine-answers}
 use Rattle.laws.proofs.Accepted.{in-within}

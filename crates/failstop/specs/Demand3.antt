@@ -19,7 +19,7 @@ use Rattle.rules.specs.Run.{Call, delivery, turn, run}
 use Rattle.rules.specs.Machine.{machine, signedBy}
 use Rattle.rules.specs.Vote.{vote, haltCount}
 use Rattle.rules.specs.declared.Query.{Query}
-use Rattle.rules.specs.Suppose.{AtMostFaulty, Correct, Orderly, Authentic, CompleteForRead, CompleteForHalts, messagesOf, arrivalsOf}
+use Rattle.failstop.specs.Suppose.{AtMostFaulty, Correct, Orderly, Authentic, CompleteForRead, CompleteForHalts, messagesOf, arrivalsOf}
 
 -- ── what is supposed ──
 

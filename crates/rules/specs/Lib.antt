@@ -4,5 +4,4 @@ pub mod Replica
 pub mod Run
 pub mod Machine
 pub mod Vote
-pub mod Suppose
 pub mod Examples

@@ -5,34 +5,19 @@ use mathlib.Core.Path.{_≡_}
 use mathlib.Core.Logic.{_⊎_}
 use mathlib.Core.Bool.{Bool, true, false, cond, _&&_, _||_}
 use mathlib.Core.List.{List, [], _∷_, List·Memᴰ}
-use lib.Dec.{eqb, ltb}
-use lib.ListN.{length}
+use lib.Dec.{ltb}
 use Rattle.question.specs.Question.{isGiven}
 use Rattle.record.specs.Record.{reply, halt}
 use Rattle.record.specs.declared.clock.Timestamp.{Timestamp}
 use Rattle.record.specs.declared.clock.LocalTime.{LocalTime}
 use Rattle.record.specs.declared.request.Request.{Request}
 use Rattle.record.specs.declared.message.Message.{Message}
-use Rattle.rules.specs.Lists.{keep, every, tally}
+use Rattle.rules.specs.Lists.{every, tally}
 use Rattle.rules.specs.Batch.{Settings}
 use Rattle.rules.specs.Replica.{State, Stepped, newState, stamped, requestsOf, step}
+use Rattle.rules.specs.Machine.{SameBag}
 use Rattle.rules.specs.Run.{Call, delivery, turn, call, run, arrivals}
 use Rattle.rules.specs.declared.Pending.{Pending}
-
--- ── one bag ──
-
-abbrev pub sameRequest : Request → Request → Bool
-sameRequest q r =
-    eqb (q .kind) (r .kind) && eqb (q .group) (r .group) && eqb (q .process) (r .process)
-    && eqb (q .variable) (r .variable) && eqb (q .timestamp .0) (r .timestamp .0) && eqb (q .value) (r .value)
-
--- how often a list has a request
-abbrev pub times : Request → List Request → ℕ
-times q requests = length (keep (sameRequest q) requests)
-
--- each request as often in one as in the other
-abbrev pub SameBag : List Request → List Request → Type 0
-SameBag l m = (q : Request) → times q l ≡ times q m
 
 -- ── the arrival rule ──
 
