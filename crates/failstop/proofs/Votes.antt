@@ -12,7 +12,7 @@ use Rattle.question.specs.Question.{given}
 use Rattle.record.specs.Record.{reply, messageQuestions}
 use Rattle.record.specs.declared.request.Request.{Request}
 use Rattle.record.specs.declared.message.Message.{Message}
-use Rattle.rules.specs.Batch.{Settings, newStore}
+use Rattle.rules.specs.Batch.{Settings, Store, Effect, newStore, valueOf}
 use Rattle.rules.specs.Run.{Call}
 use Rattle.rules.specs.Machine.{machine}
 use Rattle.rules.specs.Vote.{passes, counts, says, elect, vote}
@@ -28,8 +28,8 @@ module _ (u : Settings) (faulty : ℕ → Bool) (calls : ℕ → List Call) (bag
   reply-value : (m : Message) → List·Memᴰ m (machine (u .k) (u .owner) bag .sent) → m .kind ≡ reply
       → m .value ≡ valueAt (u .k) (u .owner) bag (m .timestamp) (m .variable)
   reply-value m i e =
-      rw (machine-from-new (u .k) (u .owner) (before (m .timestamp) bag))
-      (machine-value (u .k) (u .owner) bag newStore m (rw (machine-from-new (u .k) (u .owner) bag) at i) e)
+      machine-value (u .k) (u .owner) bag newStore m (rw (machine-from-new (u .k) (u .owner) bag) at i) e
+      ∙ ap (λ (d : Effect Store). valueOf (m .variable) (d .state)) (sym (machine-from-new (u .k) (u .owner) (before (m .timestamp) bag)))
 
   pub replica-answers : (i : ℕ) → Correct u faulty i → (r : Request) → List·Memᴰ r bag → Unmixed bag r
       → List·Memᴰ (replyWith (valueAt (u .k) (u .owner) bag (r .timestamp) (r .variable)) i r) (messagesOf u calls i)
