@@ -1,3 +1,4 @@
 pub mod State
 pub mod Head
 pub mod Output
+pub mod Run

@@ -4,11 +4,10 @@ ghost use Prim.Native.Nat.{_+_, _≤_};
 ghost use mathlib.Core.List.{[], _∷_};
 ghost use mathlib.Core.Bool.{_&&_, not};
 ghost use lib.Dec.{eqb};
-ghost use lib.ListN.{length};
 ghost use Rattle.rules.specs.Batch.{failed, oneMore, perform, fail};
 ghost use Rattle.rules.specs.Replica.{groupTimestamp, handleBatch};
 ghost use Rattle.replica.specs.State.{waiting, stateOf, withStore};
-ghost use Rattle.replica.specs.Output.{writeAt};
+ghost use Rattle.replica.specs.Output.{sends, reached};
 use crate::output::send_halts;
 use crate::output::send_replies;
 use crate::pending::take_off;
@@ -75,10 +74,8 @@ pub(crate) fn handle_batch(
 ) -> Progress
     requires { ⌜ t ≡ groupTimestamp group (waiting r) ⌝ }
     requires { ⌜ count ≤ 1000000000 ⌝ }
-    ensures state { λ p. ⌜ stateOf (p .replica) ≡ handleBatch group (stateOf r) .state ⌝ }
-    ensures count { λ p. ⌜ p .count ≡ count + length (handleBatch group (stateOf r) .sent) ⌝ }
-    ensures more { λ p. ⌜ p .count ≤ count + 320 ⌝ }
-    ensures output { λ p. ⌜ now (output .exit) ≡ writeAt (r .k) (r .groups) count (handleBatch group (stateOf r) .sent) (now (output .entry)) ⌝ }
+    ensures effect { λ p. ⌜ reached p (now (output .exit)) ≡ sends count (now (output .entry)) (handleBatch group (stateOf r)) ⌝ }
+    ensures most { λ p. ⌜ p .count ≤ count + 256 ⌝ }
 {
     let rest = take_off(r, group, t);
     if all_reads(r, group, t) {

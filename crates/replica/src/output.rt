@@ -4,7 +4,7 @@ ghost use mathlib.Core.Path.{_≡_};
 ghost use Prim.Native.Nat.{_+_, _≤_};
 ghost use mathlib.Core.List.{[], _∷_, map};
 ghost use lib.ListN.{length, getD};
-ghost use Rattle.rules.specs.Batch.{replyTo, haltTo, haltAll};
+ghost use Rattle.rules.specs.Batch.{Store, replyTo, haltTo, haltAll};
 ghost use Rattle.replica.specs.State.{waiting, stateOf};
 ghost use Rattle.replica.specs.Head.{batchAt};
 ghost use Rattle.replica.specs.Output.{writeAt};
@@ -29,28 +29,29 @@ fn put(k: u8, n: u8, m: Message, output: &mut [u8], count: usize)
     }
 }
 
-fn value_of(r: Replica, variable: u16) -> u32
-    ensures { λ x. ⌜ x ≡ getD (r .variables) variable 0 ⌝ }
+// A variable past the array has the value 0.
+fn value_of(variables: &[u32], variable: u16) -> u32
+    ensures { λ x. ⌜ x ≡ getD (now (variables .entry)) variable 0 ⌝ }
 {
     let i = variable as usize;
-    if 256 <= i {
+    if variables.len() <= i {
         return 0;
     }
-    r.variables[i]
+    variables[i]
 }
 
-fn reply_to(r: Replica, q: Request) -> Message
-    ensures { λ m. ⌜ m ≡ replyTo (stateOf r .store) (r .number) q ⌝ }
+fn reply_to(variables: &[u32], replica: u8, q: Request) -> Message
+    ensures { λ m. ⌜ ((s : Store) → s .variables ≡ now (variables .entry) → m ≡ replyTo s replica q) ⌝ }
 {
     let timestamp = q.timestamp;
     Message {
         kind: REPLY,
         group: q.group,
         process: q.process,
-        replica: r.number,
+        replica,
         variable: q.variable,
         timestamp,
-        value: value_of(r, q.variable),
+        value: value_of(variables, q.variable),
     }
 }
 
@@ -78,6 +79,7 @@ pub(crate) fn send_replies(
 ) -> usize
     requires { ⌜ count ≤ 1000000000 ⌝ }
     ensures count { λ c. ⌜ c ≡ count + length (batchAt group t (waiting r)) ⌝ }
+    ensures most { λ c. ⌜ c ≤ count + 64 ⌝ }
     ensures output { λ c. ⌜ now (output .exit) ≡ writeAt (r .k) (r .groups) count (map (replyTo (stateOf r .store) (r .number)) (batchAt group t (waiting r))) (now (output .entry)) ⌝ }
 {
     let n = pending_count(r);
@@ -87,7 +89,13 @@ pub(crate) fn send_replies(
         let p = r.pending[i];
         if in_batch(group, t, p) {
             let q = p.request;
-            put(r.k, r.groups, reply_to(r, q), output, next);
+            put(
+                r.k,
+                r.groups,
+                reply_to(&r.variables, r.number, q),
+                output,
+                next,
+            );
             next += 1;
         }
         i += 1;
@@ -106,6 +114,7 @@ pub(crate) fn send_halts(
 ) -> usize
     requires { ⌜ count ≤ 1000000000 ⌝ }
     ensures count { λ c. ⌜ c ≡ count + length (haltAll (r .k) group (r .number) t) ⌝ }
+    ensures most { λ c. ⌜ c ≤ count + 256 ⌝ }
     ensures output { λ c. ⌜ now (output .exit) ≡ writeAt (r .k) (r .groups) count (haltAll (r .k) group (r .number) t) (now (output .entry)) ⌝ }
 {
     let k = r.k;

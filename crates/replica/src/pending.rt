@@ -1,5 +1,6 @@
 // The batch of a group among the pending requests: finding it, and taking it off.
 ghost use mathlib.Core.Path.{_≡_};
+ghost use Prim.Native.Nat.{_≤_};
 ghost use mathlib.Core.Bool.{cond, not};
 ghost use Rattle.rules.specs.Lists.{keep};
 ghost use Rattle.rules.specs.Replica.{earlier};
@@ -101,11 +102,11 @@ pub(crate) fn in_batch(group: u8, t: Timestamp, p: Pending) -> bool
     (request.group == group) & (request.timestamp.0 == t.0)
 }
 
-// 1 where a request stays, 0 where it is of the batch.
-fn stays(group: u8, t: Timestamp, p: Pending) -> usize
-    ensures { λ n. ⌜ n ≡ cond (inBatch group t p) 0 1 ⌝ }
+pub(crate) fn one_if(b: bool) -> usize
+    ensures is { λ n. ⌜ n ≡ cond b 1 0 ⌝ }
+    ensures most { λ n. ⌜ n ≤ 1 ⌝ }
 {
-    if in_batch(group, t, p) { 0 } else { 1 }
+    if b { 1 } else { 0 }
 }
 
 // The replica without the batch: one pass, each request that stays moves up once.
@@ -119,7 +120,7 @@ pub(crate) fn take_off(r: Replica, group: u8, t: Timestamp) -> Replica
     while i < n {
         let p = next.pending[i];
         next.pending[kept] = p;
-        kept += stays(group, t, p);
+        kept += one_if(!in_batch(group, t, p));
         i += 1;
     }
     next.count = kept;

@@ -7,7 +7,7 @@ ghost use lib.ListN.{length};
 ghost use Rattle.question.specs.Question.{_else_, given, refused, worked, ask, bind, after, outcome};
 ghost use Rattle.rules.specs.Replica.{timeQuestions, visit, visits, atTime, step};
 ghost use Rattle.replica.specs.State.{stateOf, stepAnswer, waiting};
-ghost use Rattle.replica.specs.Output.{writeAt};
+ghost use Rattle.replica.specs.Output.{sends, reached};
 use crate::delivery::check_time;
 use crate::handle::Progress;
 use crate::handle::handle_batch;
@@ -39,10 +39,8 @@ fn check_step(r: Replica, at: LocalTime, room: usize) -> Outcome
 // The visit of a group: while its batch is stable, that batch is handled.
 fn visit(p: Progress, group: u8, at: LocalTime, output: &mut [u8]) -> Progress
     requires { ⌜ p .count ≤ 100000000 ⌝ }
-    ensures state { λ q. ⌜ stateOf (q .replica) ≡ visit group at (length (waiting (p .replica))) (stateOf (p .replica)) .state ⌝ }
-    ensures count { λ q. ⌜ q .count ≡ p .count + length (visit group at (length (waiting (p .replica))) (stateOf (p .replica)) .sent) ⌝ }
-    ensures more { λ q. ⌜ q .count ≤ p .count + 20480 ⌝ }
-    ensures output { λ q. ⌜ now (output .exit) ≡ writeAt (p .replica .k) (p .replica .groups) (p .count) (visit group at (length (waiting (p .replica))) (stateOf (p .replica)) .sent) (now (output .entry)) ⌝ }
+    ensures effect { λ q. ⌜ reached q (now (output .exit)) ≡ sends (p .count) (now (output .entry)) (visit group at (length (waiting (p .replica))) (stateOf (p .replica))) ⌝ }
+    ensures most { λ q. ⌜ q .count ≤ p .count + 16384 ⌝ }
 {
     let mut r = p.replica;
     let mut count = p.count;
@@ -65,9 +63,7 @@ fn visit(p: Progress, group: u8, at: LocalTime, output: &mut [u8]) -> Progress
 
 // The visits of groups 1 to N.
 fn visits(r: Replica, at: LocalTime, output: &mut [u8]) -> Progress
-    ensures state { λ q. ⌜ stateOf (q .replica) ≡ visits (r .groups) at (stateOf r) .state ⌝ }
-    ensures count { λ q. ⌜ q .count ≡ length (visits (r .groups) at (stateOf r) .sent) ⌝ }
-    ensures output { λ q. ⌜ now (output .exit) ≡ writeAt (r .k) (r .groups) 0 (visits (r .groups) at (stateOf r) .sent) (now (output .entry)) ⌝ }
+    ensures { λ q. ⌜ reached q (now (output .exit)) ≡ sends 0 (now (output .entry)) (visits (r .groups) at (stateOf r)) ⌝ }
 {
     let n = r.groups;
     let mut p = Progress {

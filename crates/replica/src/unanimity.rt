@@ -1,10 +1,11 @@
 // What a batch is: all reads, or a unanimous write.
 ghost use mathlib.Core.Path.{_≡_};
-ghost use mathlib.Core.Bool.{cond, _&&_};
+ghost use mathlib.Core.Bool.{_&&_};
 ghost use Rattle.rules.specs.Batch.{isWrite, sameWrite, allReads, unanimous};
 ghost use Rattle.replica.specs.State.{waiting};
 ghost use Rattle.replica.specs.Head.{batchAt, firstOf};
 use crate::pending::in_batch;
+use crate::pending::one_if;
 use crate::state::Replica;
 use crate::state::pending_count;
 use record::LocalTime;
@@ -59,12 +60,6 @@ fn agrees(first: Request, q: Request) -> bool
     ensures { λ b. ⌜ b ≡ isWrite q && sameWrite first q ⌝ }
 {
     (q.kind == WRITE) & ((first.variable == q.variable) & (first.value == q.value))
-}
-
-fn one_if(b: bool) -> usize
-    ensures { λ n. ⌜ n ≡ cond b 1 0 ⌝ }
-{
-    if b { 1 } else { 0 }
 }
 
 // Exactly k + 1 requests, all writes, all from different processes, equal in variable and value.

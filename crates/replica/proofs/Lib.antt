@@ -1,0 +1,9 @@
+pub mod Asked
+pub mod Left
+pub mod Agree
+pub mod Compact
+pub mod Written
+pub mod Stable
+pub mod Handled
+pub mod Visited
+pub mod Calls

@@ -1,0 +1,90 @@
+-- A visit, look by look: where the batch is not stable it is over, and more looks than there are pending requests change nothing.
+use Prim.Native.Nat.{ℕ, zero, suc, _+_, _-_, _≤_, _<_}
+use mathlib.Core.Path.{_≡_, refl, sym, ap, _∙_}
+use mathlib.Core.Bool.{Bool, true, false}
+use mathlib.Core.List.{List, [], _∷_, _++_}
+use native.Mathlib.Nat.{add-zero}
+use native.Mathlib.Numerals.{sub-one}
+use native.Mathlib.Omega.{arith}
+use lib.ListN.{length, length-append}
+use Rattle.record.specs.declared.clock.LocalTime.{LocalTime}
+use Rattle.rules.specs.Batch.{Effect, still, follow}
+use Rattle.rules.specs.Replica.{State, Stepped, batchOf, isStable, handleBatch, visit, visits, atTime, stepped}
+use Rattle.rules.specs.declared.Pending.{Pending}
+use Rattle.laws.proofs.Lists.{case}
+use Rattle.laws.proofs.Least.{stable-some, others-fewer}
+use Rattle.laws.proofs.Visits.{visit-all}
+use Rattle.laws.proofs.Keeps.{batch-keeps, visits-keep}
+use Rattle.replica.specs.Output.{writeAt, sends}
+use Rattle.replica.proofs.Written.{write-none, write-append}
+
+-- ── what is sent ──
+
+-- the state, the number of messages and the output, each by itself
+pub stepped-is : {s t : State} {c d : ℕ} {o p : List ℕ} → s ≡ t → c ≡ d → o ≡ p
+    → _≡_ {A = Stepped} (record { state = s; count = c; output = o }) (record { state = t; count = d; output = p })
+stepped-is e i j = rw (e, i, j)
+
+-- nothing more is sent
+pub sends-still : (count : ℕ) (output : List ℕ) (s : State) → sends count output (still s) ≡ record { state = s; count = count; output = output }
+sends-still count output s = rw (add-zero count, write-none (s .settings .k) (s .settings .groups) count output)
+
+-- one thing after another: the later messages stand behind the earlier
+pub sends-follow : (count : ℕ) (output : List ℕ) (e : Effect State) (next : State → Effect State)
+    → next (e .state) .state .settings ≡ e .state .settings
+    → sends count output (follow e next)
+    ≡ sends (sends count output e .count) (sends count output e .output) (next (e .state))
+sends-follow count output e next same =
+    stepped-is refl amount (rw same (write-append (e .state .settings .k) (e .state .settings .groups) count (e .sent) (more .sent) output))
+  where
+    more : Effect State
+    more = next (e .state)
+
+    amount : count + length (e .sent ++ more .sent) ≡ count + length (e .sent) + length (more .sent)
+    amount = omega (arith, length-append (e .sent) (more .sent))
+
+-- ── looks ──
+
+module _ (group : ℕ) (now : LocalTime) where
+  abbrev stable : State → Bool
+  stable s = isStable (s .settings .delta) now (batchOf group (s .pending))
+
+  pub visit-over : (looks : ℕ) (s : State) → stable s ≡ false → visit group now looks s ≡ still s
+  unfolding visit
+  visit-over zero s e = refl
+  visit-over (suc looks) s e = rw e
+
+  pub visit-goes : (looks : ℕ) (s : State) → 0 < looks → stable s ≡ true
+      → visit group now looks s ≡ follow (handleBatch group s) (λ t. visit group now (looks - 1) t)
+  unfolding visit
+  visit-goes zero s h e = absurd (omega arith)
+  visit-goes (suc looks) s h e = rw (e, sub-one (suc looks))
+
+  none-stable : (s : State) → length (s .pending) ≤ 0 → stable s ≡ false
+  none-stable s h = go (s .pending) h
+    where
+      go : (l : List Pending) → length l ≤ 0 → isStable (s .settings .delta) now (batchOf group l) ≡ false
+      go [] h = refl
+      go (p ∷ l) h = absurd (omega arith)
+
+  -- each handled batch takes a request off or more
+  pub visit-enough : (a b : ℕ) (s : State) → length (s .pending) ≤ a → length (s .pending) ≤ b → visit group now a s ≡ visit group now b s
+  unfolding visit handleBatch
+  visit-enough zero b s h i = sym (visit-over b s (none-stable s h))
+  visit-enough (suc a) zero s h i = visit-over (suc a) s (none-stable s i)
+  visit-enough (suc a) (suc b) s h i = case (stable s)
+      (λ e.
+      let fewer = others-fewer group (s .pending) (stable-some (s .settings .delta) now (batchOf group (s .pending)) e) in
+      rw (e, visit-enough a b (handleBatch group s .state) (omega (arith, fewer)) (omega (arith, fewer))))
+      (λ e. rw e)
+
+  pub visit-settings : (looks : ℕ) (s : State) → visit group now looks s .state .settings ≡ s .settings
+  visit-settings looks s =
+      visit-all now (λ s e. e .state .settings ≡ s .settings) (λ s. refl) (λ s e next a b. b ∙ a) group (λ s e. batch-keeps group s .settings) looks s
+
+-- a step sends from the start of the output
+pub stepped-sends : (s : State) (now : LocalTime) (output : List ℕ)
+    → sends 0 output (visits (s .settings .groups) now (atTime s now)) ≡ stepped s now output
+unfolding stepped writeAt
+stepped-sends s now output =
+    stepped-is refl (omega arith) (rw (visits-keep (s .settings .groups) now (atTime s now) .settings))

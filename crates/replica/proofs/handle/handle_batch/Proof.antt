@@ -1,0 +1,128 @@
+-- Each way through the code is one of the four things that may come of a batch.
+use Prim.Native.Nat.{ℕ, _+_}
+use mathlib.Core.Path.{_≡_, refl, sym, ap, _∙_}
+use mathlib.Core.List.{[], _∷_}
+use native.Mathlib.Omega.{arith}
+use lib.ListN.{length-map}
+use borrow.Author.Tests.{not-true, not-false}
+use Rattle.rules.specs.Batch.{Effect, perform, fail, replyTo}
+use Rattle.rules.specs.Replica.{State}
+use Rattle.replica.specs.State.{waiting, stateOf, withStore}
+use Rattle.replica.specs.Head.{batchAt}
+use Rattle.replica.specs.Output.{sends}
+use Rattle.replica.proofs.Handled.{handled-reads, handled-still, handled-write, handled-fails}
+use Rattle.replica.proofs.Visited.{stepped-is, sends-still}
+use borrow.Author.Needs.{needs}
+use Rattle.replica.proofs.handle.handle_batch.Statement.{statement}
+use Rattle.replica.proofs.handle.handle_batch.Tie as tie
+
+take-off-requires : tie.Need-take-off-requires
+take-off-requires c κs = search needs
+
+all-reads-requires : tie.Need-all-reads-requires
+all-reads-requires c κs = search needs
+
+send-replies-requires : tie.Need-send-replies-requires
+send-replies-requires c κs = search needs
+
+same-length : tie.Need-same-length
+same-length c = search needs
+
+returns : tie.Need-returns
+returns c =
+    let sent = c .before .before in
+    let reads = sent .before .before .before in
+    let start = reads .before .before .before in
+    let a = start .args in
+    let s = stateOf (a .r) in
+    let batch = batchAt (a .group) (a .t) (waiting (a .r)) in
+    let is = handled-reads (a .group) (a .t) s (start .pre .0) (sym (reads .all-reads .ensures) ∙ sent .before .before .if1 .taken) in
+    let amount = sent .send-replies .ensures .0 ∙ ap (λ (n : ℕ). a .count + n) (sym (length-map batch (replyTo (s .store) (s .number)))) in (
+      stepped-is (reads .before .take-off .ensures) amount (sent .send-replies .ensures .1 .1)
+          ∙ sym (ap (λ (e : Effect State). sends (a .count) (a .output .now) e) is),
+      omega (arith, sent .send-replies .ensures .1 .0),
+    )
+
+may-change-requires : tie.Need-may-change-requires
+may-change-requires c κs = search needs
+
+returns-2 : tie.Need-returns-2
+returns-2 c =
+    let reads = c .before .before .before in
+    let start = reads .before .before .before in
+    let a = start .args in
+    let s = stateOf (a .r) in
+    let is = handled-still (a .group) (a .t) s (start .pre .0) (sym (reads .all-reads .ensures) ∙ c .before .before .if1 .left) (sym (c .before .may-change .ensures) ∙ not-true _ (c .if2 .taken)) in (
+      stepped-is (reads .before .take-off .ensures) refl refl
+          ∙ sym (ap (λ (e : Effect State). sends (a .count) (a .output .now) e) is ∙ sends-still (a .count) (a .output .now) _),
+      omega arith,
+    )
+
+first-of-requires : tie.Need-first-of-requires
+first-of-requires c κs = search needs
+
+is-unanimous-requires : tie.Need-is-unanimous-requires
+is-unanimous-requires c κs = search needs
+
+performed-requires : tie.Need-performed-requires
+performed-requires c κs = search needs
+
+returns-3 : tie.Need-returns-3
+returns-3 c =
+    let unanimous = c .before .before in
+    let change = unanimous .before .before .before in
+    let reads = change .before .before in
+    let start = reads .before .before .before in
+    let a = start .args in
+    let s = stateOf (a .r) in
+    let is = handled-write (a .group) (a .t) s (start .pre .0) (sym (reads .all-reads .ensures) ∙ change .before .if1 .left) (sym (change .may-change .ensures) ∙ not-false _ (unanimous .before .before .if2 .left)) (sym (unanimous .is-unanimous .ensures) ∙ c .before .if3 .taken) in
+    let state = c .performed .ensures ∙ (ap (λ (x : State). withStore (perform (unanimous .before .first-of .result ∷ []) (x .store)) x) (reads .before .take-off .ensures)) in (
+      stepped-is (rw (unanimous .before .first-of .ensures) at state) refl refl
+          ∙ sym (ap (λ (e : Effect State). sends (a .count) (a .output .now) e) is ∙ sends-still (a .count) (a .output .now) _),
+      omega arith,
+    )
+
+send-halts-requires : tie.Need-send-halts-requires
+send-halts-requires c κs = search needs
+
+failing-requires : tie.Need-failing-requires
+failing-requires c κs = search needs
+
+same-length-2 : tie.Need-same-length-2
+same-length-2 c = search needs
+
+returns-4 : tie.Need-returns-4
+returns-4 c =
+    let sent = c .before .before .before in
+    let unanimous = sent .before .before .before in
+    let change = unanimous .before .before .before in
+    let reads = change .before .before in
+    let start = reads .before .before .before in
+    let a = start .args in
+    let s = stateOf (a .r) in
+    let is = handled-fails (a .group) (a .t) s (start .pre .0) (sym (reads .all-reads .ensures) ∙ change .before .if1 .left) (sym (change .may-change .ensures) ∙ not-false _ (unanimous .before .before .if2 .left)) (sym (unanimous .is-unanimous .ensures) ∙ sent .before .before .if3 .left) in
+    let state = c .failing .ensures ∙ (ap (λ (x : State). withStore (fail (x .store)) x) (reads .before .take-off .ensures)) in (
+      stepped-is state (sent .send-halts .ensures .0) (sent .send-halts .ensures .1 .1)
+          ∙ sym (ap (λ (e : Effect State). sends (a .count) (a .output .now) e) is),
+      omega (arith, sent .send-halts .ensures .1 .0),
+    )
+
+pub handle-batch-spec : {M : Type 1} → statement M
+handle-batch-spec =
+    tie.close
+    (tie.spec
+    take-off-requires
+    all-reads-requires
+    send-replies-requires
+    same-length
+    returns
+    may-change-requires
+    returns-2
+    first-of-requires
+    is-unanimous-requires
+    performed-requires
+    returns-3
+    send-halts-requires
+    failing-requires
+    same-length-2
+    returns-4)

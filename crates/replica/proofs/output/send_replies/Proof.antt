@@ -1,0 +1,124 @@
+-- The replies sent so far, and those to what is left of the batch behind them, are the replies to all of it.
+use Prim.Native.Nat.{_+_, _≤_, _-_}
+use mathlib.Core.Path.{_≡_, refl, sym, ap, _∙_}
+use mathlib.Core.Logic.{⊎-elim}
+use mathlib.Core.Bool.{true, false}
+use mathlib.Core.List.{[], _∷_, map}
+use native.Mathlib.Nat.{add-zero}
+use native.Mathlib.Omega.{arith}
+use lib.ListN.{length, getD, drop}
+use Rattle.rules.specs.Batch.{replyTo}
+use Rattle.replica.specs.State.{waiting, stateOf, free}
+use Rattle.replica.specs.Head.{inBatch, batchAt}
+use Rattle.replica.specs.Output.{writeAt}
+use Rattle.replica.proofs.Left.{left-next, left-none}
+use Rattle.replica.proofs.Written.{write-none, write-next}
+use borrow.Author.Needs.{needs}
+use Rattle.replica.proofs.output.send_replies.Statement.{statement}
+use Rattle.replica.proofs.output.send_replies.Tie as tie
+
+abbrev Inv-loop : tie.InvT-loop
+Inv-loop group t output₀ count r n next₀ i₀ output next i =
+    (i ≤ n)
+    × (next ≤ count + i)
+    × (length output ≡ length output₀)
+    × (next + length (batchAt group t (drop i (waiting r))) ≡ count + length (batchAt group t (waiting r)))
+    × (writeAt (r .k) (r .groups) next (map (replyTo (stateOf r .store) (r .number)) (batchAt group t (drop i (waiting r)))) output
+      ≡ writeAt (r .k) (r .groups) count (map (replyTo (stateOf r .store) (r .number)) (batchAt group t (waiting r))) output₀)
+
+abbrev μ-loop : tie.MeasureT-loop
+μ-loop group t output₀ count r n next₀ i₀ output next i = n - i
+
+pending-count-requires : tie.Need-pending-count-requires Inv-loop μ-loop
+pending-count-requires c κs = search needs
+
+loop-holds : tie.Need-loop-holds Inv-loop μ-loop
+loop-holds c = (omega arith, omega arith, refl, refl, refl)
+
+mul-p : tie.Need-mul-p Inv-loop μ-loop
+mul-p c = search needs
+
+element-copy-out-p : tie.Need-element-copy-out-p Inv-loop μ-loop
+element-copy-out-p c = search needs
+
+in-batch-requires : tie.Need-in-batch-requires Inv-loop μ-loop
+in-batch-requires c κs = search needs
+
+reply-to-requires : tie.Need-reply-to-requires Inv-loop μ-loop
+reply-to-requires c κs = search needs
+
+put-requires : tie.Need-put-requires Inv-loop μ-loop
+put-requires c κs = search needs
+
+add-next : tie.Need-add-next Inv-loop μ-loop
+add-next c = search needs
+
+add-i : tie.Need-add-i Inv-loop μ-loop
+add-i c = search needs
+
+loop-less : tie.Need-loop-less Inv-loop μ-loop
+loop-less c = search needs
+
+loop-again : tie.Need-loop-again Inv-loop μ-loop
+loop-again c =
+    let l = c .before .before .before .before in
+    let a = l .before .before .before .args in
+    let r = a .t1 in
+    let i = l .loop .i in
+    let inv = l .loop .inv in
+    let p = getD (r .pending) i free in
+    let next = left-next (r .count) (r .pending) i free (omega (arith, l .before .pending-count .ensures .0)) in
+    let mine = c .before .in-batch .ensures in
+    let reply = replyTo (stateOf r .store) (r .number) in
+    ⊎-elim
+    (λ w.
+    let here : inBatch (a .group) (a .t) p ≡ true = sym mine ∙ w .0 .taken in
+    let message = w .5 .ensures (stateOf r .store) refl in (
+      omega arith,
+      omega (arith, w .11),
+      ap length (w .10) ∙ (w .7 .kept .1 .1 .1 .0 ∙ inv .2),
+      omega (arith, w .11, rw (next, here) at (inv .3)),
+      rw (w .10, w .11, w .7 .ensures, message)
+          (sym (write-next (r .k) (r .groups) (l .loop .next) (reply (p .request)) _ (l .loop .output)) ∙ (rw (next, here) at (inv .4))),
+    ))
+    (λ w.
+    let there : inBatch (a .group) (a .t) p ≡ false = sym mine ∙ w .0 .left in (
+      omega arith,
+      omega (arith, w .2),
+      ap length (w .1) ∙ inv .2,
+      omega (arith, w .2, rw (next, there) at (inv .3)),
+      rw (w .1, w .2) (rw (next, there) at (inv .4)),
+    ))
+    (c .if1 .came)
+
+same-length : tie.Need-same-length Inv-loop μ-loop
+same-length c = c .before .loop .inv .2
+
+returns : tie.Need-returns Inv-loop μ-loop
+returns c =
+    let l = c .before in
+    let r = l .before .before .before .args .t1 in
+    let none = left-none (r .count) (r .pending) (l .loop .i) (omega (arith, l .before .pending-count .ensures .0)) in (
+      sym (add-zero (l .loop .next)) ∙ (rw none at (l .loop .inv .3)),
+      (omega arith, sym (write-none (r .k) (r .groups) (l .loop .next) (l .loop .output)) ∙ (rw none at (l .loop .inv .4))),
+    )
+
+pub send-replies-spec : {M : Type 1} → statement M
+send-replies-spec =
+    tie.close
+    (tie.spec
+    Inv-loop
+    μ-loop
+    pending-count-requires
+    loop-holds
+    mul-p
+    element-copy-out-p
+    in-batch-requires
+    reply-to-requires
+    put-requires
+    add-next
+    add-i
+    loop-less
+    loop-again
+    same-length
+    returns)

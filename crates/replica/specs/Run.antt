@@ -1,0 +1,35 @@
+-- A run of the code: calls of deliver and step, each doing what its contract promises.
+use Prim.Native.Nat.{ℕ}
+use mathlib.Core.Path.{_≡_}
+use mathlib.Core.List.{List, [], _∷_, _++_}
+use Rattle.question.specs.Question.{Answer, given, after, bind}
+use Rattle.record.specs.declared.clock.LocalTime.{LocalTime}
+use Rattle.record.specs.declared.message.Message.{Message}
+use Rattle.rules.specs.Replica.{deliver, step}
+use Rattle.rules.specs.Run.{Call, delivery, turn, messagesIn}
+use Rattle.replica.specs.State.{stateOf, stepAnswer}
+use Rattle.replica.specs.declared.state.Replica.{Replica}
+use Rattle.replica.specs.declared.stepping.StepAnswer.{StepAnswer}
+use Rattle.replica.specs.declared.stepping.StepAnswer.the-variants.{Sent, Refused}
+
+-- the messages that a caller of step finds in the output
+abbrev pub found : Replica → StepAnswer → List ℕ → List Message
+found r (Sent count) output = messagesIn (r .k) (r .groups) count output
+found r (Refused number) output = []
+
+-- a call takes r to r′ and sends messages: what the contracts of deliver and step say of it
+pub data Does (r r′ : Replica) : Call → List Message → Type 0 where
+  delivers : {bytes : List ℕ} {at : LocalTime}
+      → stateOf r′ ≡ after (stateOf r) (deliver (stateOf r) bytes at)
+      → Does r r′ (delivery bytes at) []
+  steps : {at : LocalTime} {output : List ℕ} (answer : StepAnswer) (output′ : List ℕ)
+      → stepAnswer answer ≡ bind (step (stateOf r) at output) (λ d. given (d .count))
+      → stateOf r′ ≡ after (stateOf r) (bind (step (stateOf r) at output) (λ d. given (d .state)))
+      → output′ ≡ after output (bind (step (stateOf r) at output) (λ d. given (d .output)))
+      → Does r r′ (turn at output) (found r answer output′)
+
+-- one call after another
+pub data Runs : Replica → Replica → List Call → List Message → Type 0 where
+  start : {r : Replica} → Runs r r [] []
+  then : {r r′ r″ : Replica} {c : Call} {calls : List Call} {sent more : List Message}
+      → Does r r′ c sent → Runs r′ r″ calls more → Runs r r″ (c ∷ calls) (sent ++ more)
