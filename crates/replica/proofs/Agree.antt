@@ -1,6 +1,6 @@
 -- Unanimity, request by request: each is a write like the first, and its sender has not been seen.
 use Prim.Native.Nat.{ℕ, _+_, _<_}
-use mathlib.Core.Path.{_≡_, refl, sym, ap, _∙_}
+use mathlib.Core.Path.{_≡_, refl, sym}
 use mathlib.Core.Bool.{Bool, true, false, cond, not, _&&_, _||_, and-assoc, and-comm, and-true, and-false, or-true, or-false}
 use mathlib.Core.List.{List, [], _∷_}
 use lib.Dec.{eqb, ltb}
@@ -54,7 +54,7 @@ module _ (first : Request) where
       let same : getD (set seen s true) (q .process) false ≡ true = rw (← eqb-true s (q .process) e) (getD-set-same seen s true false h) in
       rw (e, same, and-false (isWrite q && sameWrite first q), and-false (agrees seen q && rest)))
       (λ e.
-      let other : getD (set seen s true) (q .process) false ≡ getD seen (q .process) false = getD-set-other seen s (q .process) true false (λ i. eqb-false s (q .process) e (sym i)) in
+      let other = getD-set-other seen s (q .process) true false (λ i. eqb-false s (q .process) e (sym i)) in
       rw (e, other, seen-more seen s batch h) (sym (and-assoc (agrees seen q) rest (not there))))
 
   module _ (group : ℕ) (t : Timestamp) (p : Pending) (rest : List Pending) (seen : List Bool) (room : p .request .process < length seen) where

@@ -1,13 +1,13 @@
 -- A run of the code is the rules' run, whatever the calls.
 use Prim.Native.Nat.{ℕ}
-use mathlib.Core.Path.{_≡_, refl, sym, ap, _∙_}
-use mathlib.Core.List.{List, [], _∷_, _++_}
+use mathlib.Core.Path.{_≡_, refl, ap, _∙_}
+use mathlib.Core.List.{List, _++_}
 use native.Mathlib.Omega.{arith}
 use Rattle.question.specs.Question.{Answer, given, refused, after, bind}
 use Rattle.record.specs.declared.message.Message.{Message}
 use Rattle.rules.specs.Batch.{Effect, follow}
 use Rattle.rules.specs.Replica.{State, Stepped, step}
-use Rattle.rules.specs.Run.{Call, delivery, turn, sentBy, call, run}
+use Rattle.rules.specs.Run.{Call, sentBy, call, run}
 use Rattle.replica.specs.State.{stateOf, stepAnswer}
 use Rattle.replica.specs.Run.{found, Does, delivers, steps, Runs, start, then}
 use Rattle.replica.specs.declared.state.Replica.{Replica}

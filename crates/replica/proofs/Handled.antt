@@ -1,7 +1,7 @@
 -- The batch that is found by its timestamp is the rules' batch, and each of the four things that may come of it is the rules'.
 use Prim.Native.Nat.{ℕ, _+_}
-use mathlib.Core.Path.{_≡_, refl, sym, ap, _∙_}
-use mathlib.Core.Bool.{Bool, true, false, not, _&&_, and-assoc, and-false, and-true}
+use mathlib.Core.Path.{_≡_, refl, _∙_}
+use mathlib.Core.Bool.{Bool, true, false, not, _&&_, and-assoc, and-false}
 use mathlib.Core.List.{List, [], _∷_, map}
 use native.Mathlib.Omega.{arith}
 use lib.Dec.{eqb}
@@ -38,6 +38,10 @@ module _ (group : ℕ) (t : Timestamp) (s : State) (least : t ≡ groupTimestamp
   unfolding handleBatch
   handled = rw (least, ← keep-both (λ p. stamped (groupTimestamp group (s .pending)) (p .request)) (ofGroup group) (s .pending))
 
+  -- the rules ask for unanimity first
+  regroup : unanimous (s .settings .k) batch && eqb group (s .settings .owner) && not (failed (s .store)) ≡ unanimous (s .settings .k) batch && mayChange
+  regroup = and-assoc (unanimous (s .settings .k) batch) (eqb group (s .settings .owner)) (not (failed (s .store)))
+
   pub handled-reads : allReads batch ≡ true
       → handleBatch group s ≡ taking group t s (record { state = s .store; sent = map (replyTo (s .store) (s .number)) batch })
   unfolding handle
@@ -46,16 +50,16 @@ module _ (group : ℕ) (t : Timestamp) (s : State) (least : t ≡ groupTimestamp
   pub handled-still : allReads batch ≡ false → mayChange ≡ false → handleBatch group s ≡ taking group t s (still (s .store))
   unfolding handle
   handled-still a b =
-      handled ∙ rw (a, and-assoc (unanimous (s .settings .k) batch) (eqb group (s .settings .owner)) (not (failed (s .store))), b, and-false (unanimous (s .settings .k) batch))
+      handled ∙ rw (a, regroup, b, and-false (unanimous (s .settings .k) batch))
 
   pub handled-write : allReads batch ≡ false → mayChange ≡ true → unanimous (s .settings .k) batch ≡ true
       → handleBatch group s ≡ taking group t s (still (perform (firstOf batch ∷ []) (s .store)))
   unfolding handle
   handled-write a b u =
-      handled ∙ rw (a, and-assoc (unanimous (s .settings .k) batch) (eqb group (s .settings .owner)) (not (failed (s .store))), b, u, perform-first (s .settings .k) batch (s .store) u)
+      handled ∙ rw (a, regroup, b, u, perform-first (s .settings .k) batch (s .store) u)
 
   pub handled-fails : allReads batch ≡ false → mayChange ≡ true → unanimous (s .settings .k) batch ≡ false
       → handleBatch group s ≡ taking group t s (record { state = fail (s .store); sent = haltAll (s .settings .k) group (s .number) t })
   unfolding handle
   handled-fails a b u =
-      handled ∙ rw (a, and-assoc (unanimous (s .settings .k) batch) (eqb group (s .settings .owner)) (not (failed (s .store))), b, u)
+      handled ∙ rw (a, regroup, b, u)

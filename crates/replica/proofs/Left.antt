@@ -1,7 +1,7 @@
 -- What is left of the first n of a list from i on: the next element and what is left after it. Every loop over the pending
 -- requests carries what is left.
 use Prim.Native.Nat.{ℕ, _+_, _≤_, _<_, min}
-use mathlib.Core.Path.{_≡_, refl}
+use mathlib.Core.Path.{_≡_}
 use mathlib.Core.List.{List, [], _∷_}
 use native.Mathlib.Numerals.{add-one}
 use native.Mathlib.Omega.{arith}

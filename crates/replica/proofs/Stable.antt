@@ -1,9 +1,9 @@
 -- The head that the code finds, request by request, is that of the rules: its timestamp is the group's, and its first arrival is
 -- late exactly where the group's batch is stable.
-use Prim.Native.Nat.{ℕ, _+_, _≤_, _<_, min}
+use Prim.Native.Nat.{ℕ, _+_, _≤_, min}
 use mathlib.Core.Path.{_≡_, refl, sym, ap, _∙_}
 use mathlib.Core.Logic.{_⊎_, inl, inr, ⊎-elim}
-use mathlib.Core.Bool.{Bool, true, false, cond, _&&_, _||_, or-assoc, or-comm, or-false, and-or-distrib-left}
+use mathlib.Core.Bool.{Bool, true, false, _&&_, _||_, or-assoc, or-comm, or-false, and-or-distrib-left}
 use mathlib.Core.List.{List, [], _∷_}
 use native.Mathlib.Omega.{arith}
 use lib.Dec.{eqb, ltb}
@@ -12,10 +12,10 @@ use Rattle.record.specs.declared.clock.Timestamp.{Timestamp}
 use Rattle.record.specs.declared.clock.LocalTime.{LocalTime}
 use Rattle.record.specs.declared.request.Request.{Request}
 use Rattle.rules.specs.Lists.{keep, some}
-use Rattle.rules.specs.Replica.{State, stamped, lowest, requestsOf, ofGroup, groupTimestamp, batchOf, earlier, earliest, isStable}
+use Rattle.rules.specs.Replica.{stamped, lowest, requestsOf, ofGroup, groupTimestamp, batchOf, earlier, earliest, isStable}
 use Rattle.rules.specs.declared.Pending.{Pending}
 use Rattle.laws.proofs.Lists.{case}
-use Rattle.replica.specs.Head.{join, meet, headFrom, headIn, isLate, whereLate, stableHead}
+use Rattle.replica.specs.Head.{join, headFrom, headIn, isLate, whereLate}
 use Rattle.replica.specs.declared.pending.Head.{Head}
 use Rattle.replica.specs.declared.pending.Head.the-variants.{Nothing, At}
 
@@ -141,8 +141,9 @@ module _ (delta : ℕ) (now : LocalTime) where
     head-is [] = inl (refl, refl)
     head-is (p ∷ l) = case (ofGroup group p)
         (λ e.
-        let t = lowest (p .request .timestamp) (requestsOf (mine l)) in
-        let stable = stable-late (keep (λ q. stamped t (q .request)) (p ∷ mine l)) ∙ some-keep (λ q. stamped t (q .request)) (λ q. late (q .arrival)) (p ∷ mine l) in
+        let mineToo = p ∷ mine l in
+        let with-t : Pending → Bool = λ q. stamped (lowest (p .request .timestamp) (requestsOf (mine l))) (q .request) in
+        let stable = stable-late (keep with-t mineToo) ∙ some-keep with-t (λ q. late (q .arrival)) mineToo in
         rw e (inr (found-as refl (sym stable) (head-from (p .request .timestamp) (p .arrival) l))))
         (λ e. rw e (head-is l))
 

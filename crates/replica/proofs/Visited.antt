@@ -25,6 +25,10 @@ pub stepped-is : {s t : State} {c d : ℕ} {o p : List ℕ} → s ≡ t → c �
     → _≡_ {A = Stepped} (record { state = s; count = c; output = o }) (record { state = t; count = d; output = p })
 stepped-is e i j = rw (e, i, j)
 
+-- what an effect sends, by what the effect is
+pub sends-as : (count : ℕ) (output : List ℕ) {e d : Effect State} {x : Stepped} → e ≡ d → x ≡ sends count output d → x ≡ sends count output e
+sends-as count output e i = rw e i
+
 -- nothing more is sent
 pub sends-still : (count : ℕ) (output : List ℕ) (s : State) → sends count output (still s) ≡ record { state = s; count = count; output = output }
 sends-still count output s = rw (add-zero count, write-none (s .settings .k) (s .settings .groups) count output)
@@ -54,7 +58,7 @@ module _ (group : ℕ) (now : LocalTime) where
   visit-over zero s e = refl
   visit-over (suc looks) s e = rw e
 
-  pub visit-goes : (looks : ℕ) (s : State) → 0 < looks → stable s ≡ true
+  visit-goes : (looks : ℕ) (s : State) → 0 < looks → stable s ≡ true
       → visit group now looks s ≡ follow (handleBatch group s) (λ t. visit group now (looks - 1) t)
   unfolding visit
   visit-goes zero s h e = absurd (omega arith)
@@ -81,6 +85,15 @@ module _ (group : ℕ) (now : LocalTime) where
   pub visit-settings : (looks : ℕ) (s : State) → visit group now looks s .state .settings ≡ s .settings
   visit-settings looks s =
       visit-all now (λ s e. e .state .settings ≡ s .settings) (λ s. refl) (λ s e next a b. b ∙ a) group (λ s e. batch-keeps group s .settings) looks s
+
+  -- one look: the batch's messages, and those of the looks that are left behind them
+  pub visit-sends : (count : ℕ) (output : List ℕ) (looks : ℕ) (s : State) → 0 < looks → stable s ≡ true
+      → let d = sends count output (handleBatch group s) in
+      sends count output (visit group now looks s) ≡ sends (d .count) (d .output) (visit group now (looks - 1) (d .state))
+  visit-sends count output looks s h e =
+      let rest : State → Effect State = λ t. visit group now (looks - 1) t in
+      ap (λ (d : Effect State). sends count output d) (visit-goes looks s h e)
+      ∙ sends-follow count output (handleBatch group s) rest (visit-settings (looks - 1) (handleBatch group s .state))
 
 -- a step sends from the start of the output
 pub stepped-sends : (s : State) (now : LocalTime) (output : List ℕ)

@@ -7,7 +7,7 @@ use Rattle.record.specs.declared.clock.Timestamp.{Timestamp}
 use Rattle.record.specs.declared.clock.LocalTime.{LocalTime}
 use Rattle.record.specs.declared.request.Request.{Request}
 use Rattle.rules.specs.Lists.{keep}
-use Rattle.rules.specs.Replica.{State, stamped, requestsOf, ofGroup, earlier, earliest}
+use Rattle.rules.specs.Replica.{State, stamped, requestsOf, ofGroup, earlier}
 use Rattle.rules.specs.declared.Pending.{Pending}
 use Rattle.replica.specs.State.{blankRequest}
 use Rattle.replica.specs.declared.pending.Head.{Head}

@@ -1,7 +1,7 @@
 // Making a replica.
 ghost use mathlib.Core.Path.{_≡_};
 ghost use Rattle.question.specs.Question.{given, worked, ask, after, verdict, outcome};
-ghost use Rattle.rules.specs.Replica.{makeQuestions, newState, make};
+ghost use Rattle.rules.specs.Replica.{makeQuestions, make};
 ghost use Rattle.replica.specs.State.{settings, stateOf, newReplica, leastState};
 use crate::state::Replica;
 use question::Outcome;

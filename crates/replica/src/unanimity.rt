@@ -8,10 +8,8 @@ use crate::pending::in_batch;
 use crate::pending::one_if;
 use crate::state::Replica;
 use crate::state::pending_count;
-use record::LocalTime;
 use record::Request;
 use record::Timestamp;
-use rules::Pending;
 
 const READ: u8 = 1;
 

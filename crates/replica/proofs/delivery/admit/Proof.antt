@@ -1,10 +1,10 @@
 -- The replica's questions are asked by themselves: a record's refusal comes before theirs.
-use mathlib.Core.Path.{_≡_, refl, sym, ap, _∙_}
+use mathlib.Core.Path.{_≡_, sym, ap, _∙_}
 use mathlib.Core.List.{[], _∷_}
 use lib.Dec.{ltb}
 use lib.ListN.{length}
 use Rattle.question.specs.Question.{_else_, given, worked, ask, outcome}
-use Rattle.rules.specs.Replica.{timeQuestions, admit}
+use Rattle.rules.specs.Replica.{timeQuestions}
 use Rattle.replica.specs.State.{stateOf}
 use Rattle.replica.proofs.Asked.{admit-next, admit-yes}
 use borrow.Author.Needs.{needs}

@@ -5,7 +5,7 @@ use native.Mathlib.Omega.{arith}
 use lib.ListN.{length, length-map, length-take}
 use Rattle.record.specs.Record.{requestAnswer}
 use Rattle.rules.specs.Replica.{deliver}
-use Rattle.replica.specs.State.{stateOf, waiting}
+use Rattle.replica.specs.State.{stateOf}
 use Rattle.replica.proofs.Asked.{admit-place}
 use borrow.Author.Needs.{needs}
 use Rattle.replica.proofs.delivery.deliver.Statement.{statement}
@@ -22,7 +22,8 @@ add-pending-requires c κs =
     let s = c .before .before .before .before .before in
     let l = s .args .r .pending in
     let long : length l ≡ 64 = sym (length-map l _) ∙ s .good .0 .1 .1 .1 .1 .1 .1 .1 .1 .1 .0 .1 .0 .1 in
-    let place = admit-place (stateOf (s .args .r)) (s .args .bytes .now) (s .args .at) (sym (c .before .before .before .admit .ensures) ∙ ap requestAnswer (c .before .request .given .1)) in
+    let admitted = sym (c .before .before .before .admit .ensures) ∙ ap requestAnswer (c .before .request .given .1) in
+    let place = admit-place (stateOf (s .args .r)) (s .args .bytes .now) (s .args .at) admitted in
     omega (arith, simp length-take at place)
 
 enum-known-number : tie.Need-enum-known-number
@@ -31,8 +32,8 @@ enum-known-number c = search needs
 returns : tie.Need-returns
 unfolding deliver
 returns c =
-    let f = c .before .before .before .before in
-    rw (← f .admit .ensures, c .before .before .request .given .1) (refl, (c .add-pending .ensures, λ q e. absurd (let z : _≡_ {A = ℕ} 0 1 = cc in omega arith)))
+    rw (← c .before .before .before .before .admit .ensures, c .before .before .request .given .1)
+    (refl, (c .add-pending .ensures, λ q e. absurd (let z : _≡_ {A = ℕ} 0 1 = cc in omega arith)))
 
 returns-2 : tie.Need-returns-2
 unfolding deliver

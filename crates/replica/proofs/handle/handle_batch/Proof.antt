@@ -1,17 +1,16 @@
 -- Each way through the code is one of the four things that may come of a batch.
 use Prim.Native.Nat.{ℕ, _+_}
-use mathlib.Core.Path.{_≡_, refl, sym, ap, _∙_}
+use mathlib.Core.Path.{refl, sym, ap, _∙_}
 use mathlib.Core.List.{[], _∷_}
 use native.Mathlib.Omega.{arith}
 use lib.ListN.{length-map}
 use borrow.Author.Tests.{not-true, not-false}
-use Rattle.rules.specs.Batch.{Effect, perform, fail, replyTo}
+use Rattle.rules.specs.Batch.{perform, fail, replyTo}
 use Rattle.rules.specs.Replica.{State}
 use Rattle.replica.specs.State.{waiting, stateOf, withStore}
 use Rattle.replica.specs.Head.{batchAt}
-use Rattle.replica.specs.Output.{sends}
 use Rattle.replica.proofs.Handled.{handled-reads, handled-still, handled-write, handled-fails}
-use Rattle.replica.proofs.Visited.{stepped-is, sends-still}
+use Rattle.replica.proofs.Visited.{stepped-is, sends-as, sends-still}
 use borrow.Author.Needs.{needs}
 use Rattle.replica.proofs.handle.handle_batch.Statement.{statement}
 use Rattle.replica.proofs.handle.handle_batch.Tie as tie
@@ -35,11 +34,11 @@ returns c =
     let start = reads .before .before .before in
     let a = start .args in
     let s = stateOf (a .r) in
-    let batch = batchAt (a .group) (a .t) (waiting (a .r)) in
-    let is = handled-reads (a .group) (a .t) s (start .pre .0) (sym (reads .all-reads .ensures) ∙ sent .before .before .if1 .taken) in
-    let amount = sent .send-replies .ensures .0 ∙ ap (λ (n : ℕ). a .count + n) (sym (length-map batch (replyTo (s .store) (s .number)))) in (
-      stepped-is (reads .before .take-off .ensures) amount (sent .send-replies .ensures .1 .1)
-          ∙ sym (ap (λ (e : Effect State). sends (a .count) (a .output .now) e) is),
+    let yes = sym (reads .all-reads .ensures) ∙ sent .before .before .if1 .taken in
+    let same = sym (length-map (batchAt (a .group) (a .t) (waiting (a .r))) (replyTo (s .store) (s .number))) in
+    let amount = sent .send-replies .ensures .0 ∙ ap (λ (n : ℕ). a .count + n) same in (
+      sends-as (a .count) (a .output .now) (handled-reads (a .group) (a .t) s (start .pre .0) yes)
+          (stepped-is (reads .before .take-off .ensures) amount (sent .send-replies .ensures .1 .1)),
       omega (arith, sent .send-replies .ensures .1 .0),
     )
 
@@ -48,13 +47,14 @@ may-change-requires c κs = search needs
 
 returns-2 : tie.Need-returns-2
 returns-2 c =
-    let reads = c .before .before .before in
+    let change = c .before in
+    let reads = change .before .before in
     let start = reads .before .before .before in
     let a = start .args in
-    let s = stateOf (a .r) in
-    let is = handled-still (a .group) (a .t) s (start .pre .0) (sym (reads .all-reads .ensures) ∙ c .before .before .if1 .left) (sym (c .before .may-change .ensures) ∙ not-true _ (c .if2 .taken)) in (
-      stepped-is (reads .before .take-off .ensures) refl refl
-          ∙ sym (ap (λ (e : Effect State). sends (a .count) (a .output .now) e) is ∙ sends-still (a .count) (a .output .now) _),
+    let no = sym (reads .all-reads .ensures) ∙ change .before .if1 .left in
+    let may-not = sym (change .may-change .ensures) ∙ not-true _ (c .if2 .taken) in (
+      sends-as (a .count) (a .output .now) (handled-still (a .group) (a .t) (stateOf (a .r)) (start .pre .0) no may-not)
+          (stepped-is (reads .before .take-off .ensures) refl refl ∙ sym (sends-still (a .count) (a .output .now) _)),
       omega arith,
     )
 
@@ -74,11 +74,15 @@ returns-3 c =
     let reads = change .before .before in
     let start = reads .before .before .before in
     let a = start .args in
-    let s = stateOf (a .r) in
-    let is = handled-write (a .group) (a .t) s (start .pre .0) (sym (reads .all-reads .ensures) ∙ change .before .if1 .left) (sym (change .may-change .ensures) ∙ not-false _ (unanimous .before .before .if2 .left)) (sym (unanimous .is-unanimous .ensures) ∙ c .before .if3 .taken) in
-    let state = c .performed .ensures ∙ (ap (λ (x : State). withStore (perform (unanimous .before .first-of .result ∷ []) (x .store)) x) (reads .before .take-off .ensures)) in (
-      stepped-is (rw (unanimous .before .first-of .ensures) at state) refl refl
-          ∙ sym (ap (λ (e : Effect State). sends (a .count) (a .output .now) e) is ∙ sends-still (a .count) (a .output .now) _),
+    let no = sym (reads .all-reads .ensures) ∙ change .before .if1 .left in
+    let may = sym (change .may-change .ensures) ∙ not-false _ (unanimous .before .before .if2 .left) in
+    let all = sym (unanimous .is-unanimous .ensures) ∙ c .before .if3 .taken in
+    let first = unanimous .before .first-of in
+    let state =
+    c .performed .ensures
+    ∙ ap (λ (x : State). withStore (perform (first .result ∷ []) (x .store)) x) (reads .before .take-off .ensures) in (
+      sends-as (a .count) (a .output .now) (handled-write (a .group) (a .t) (stateOf (a .r)) (start .pre .0) no may all)
+          (stepped-is (rw (first .ensures) at state) refl refl ∙ sym (sends-still (a .count) (a .output .now) _)),
       omega arith,
     )
 
@@ -99,11 +103,12 @@ returns-4 c =
     let reads = change .before .before in
     let start = reads .before .before .before in
     let a = start .args in
-    let s = stateOf (a .r) in
-    let is = handled-fails (a .group) (a .t) s (start .pre .0) (sym (reads .all-reads .ensures) ∙ change .before .if1 .left) (sym (change .may-change .ensures) ∙ not-false _ (unanimous .before .before .if2 .left)) (sym (unanimous .is-unanimous .ensures) ∙ sent .before .before .if3 .left) in
-    let state = c .failing .ensures ∙ (ap (λ (x : State). withStore (fail (x .store)) x) (reads .before .take-off .ensures)) in (
-      stepped-is state (sent .send-halts .ensures .0) (sent .send-halts .ensures .1 .1)
-          ∙ sym (ap (λ (e : Effect State). sends (a .count) (a .output .now) e) is),
+    let no = sym (reads .all-reads .ensures) ∙ change .before .if1 .left in
+    let may = sym (change .may-change .ensures) ∙ not-false _ (unanimous .before .before .if2 .left) in
+    let not-all = sym (unanimous .is-unanimous .ensures) ∙ sent .before .before .if3 .left in
+    let state = c .failing .ensures ∙ ap (λ (x : State). withStore (fail (x .store)) x) (reads .before .take-off .ensures) in (
+      sends-as (a .count) (a .output .now) (handled-fails (a .group) (a .t) (stateOf (a .r)) (start .pre .0) no may not-all)
+          (stepped-is state (sent .send-halts .ensures .0) (sent .send-halts .ensures .1 .1)),
       omega (arith, sent .send-halts .ensures .1 .0),
     )
 

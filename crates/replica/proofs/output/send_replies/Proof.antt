@@ -3,7 +3,7 @@ use Prim.Native.Nat.{_+_, _≤_, _-_}
 use mathlib.Core.Path.{_≡_, refl, sym, ap, _∙_}
 use mathlib.Core.Logic.{⊎-elim}
 use mathlib.Core.Bool.{true, false}
-use mathlib.Core.List.{[], _∷_, map}
+use mathlib.Core.List.{map}
 use native.Mathlib.Nat.{add-zero}
 use native.Mathlib.Omega.{arith}
 use lib.ListN.{length, getD, drop}
@@ -24,7 +24,7 @@ Inv-loop group t output₀ count r n next₀ i₀ output next i =
     × (length output ≡ length output₀)
     × (next + length (batchAt group t (drop i (waiting r))) ≡ count + length (batchAt group t (waiting r)))
     × (writeAt (r .k) (r .groups) next (map (replyTo (stateOf r .store) (r .number)) (batchAt group t (drop i (waiting r)))) output
-      ≡ writeAt (r .k) (r .groups) count (map (replyTo (stateOf r .store) (r .number)) (batchAt group t (waiting r))) output₀)
+    ≡ writeAt (r .k) (r .groups) count (map (replyTo (stateOf r .store) (r .number)) (batchAt group t (waiting r))) output₀)
 
 abbrev μ-loop : tie.MeasureT-loop
 μ-loop group t output₀ count r n next₀ i₀ output next i = n - i

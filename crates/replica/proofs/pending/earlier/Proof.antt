@@ -1,8 +1,6 @@
 use Prim.Native.Nat.{min}
 use mathlib.Core.Path.{_≡_, ap}
 use native.Mathlib.Omega.{arith}
-use Rattle.record.specs.declared.clock.LocalTime.{LocalTime}
-use borrow.Author.Needs.{needs}
 use Rattle.replica.proofs.pending.earlier.Statement.{statement}
 use Rattle.replica.proofs.pending.earlier.Tie as tie
 

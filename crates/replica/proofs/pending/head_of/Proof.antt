@@ -1,8 +1,8 @@
 -- The head so far, carried through what is left of the pending requests, is the head of them all.
-use Prim.Native.Nat.{_≤_, _<_, _-_}
-use mathlib.Core.Path.{_≡_, refl, sym, _∙_}
+use Prim.Native.Nat.{_≤_, _-_}
+use mathlib.Core.Path.{_≡_, refl}
 use native.Mathlib.Omega.{arith}
-use lib.ListN.{length, drop}
+use lib.ListN.{drop}
 use Rattle.replica.specs.State.{waiting, free}
 use Rattle.replica.specs.Head.{headFrom, headIn}
 use Rattle.replica.proofs.Left.{left-next, left-none}

@@ -19,10 +19,14 @@ returns : tie.Need-returns
 returns c = rw (← c .before .before .head-of .ensures, c .enum-told .given .1)
 
 returns-2 : tie.Need-returns-2
-returns-2 c = rw (← c .before .before .before .before .before .head-of .ensures, c .before .before .before .t .given .1, sym (c .before .is-late .ensures) ∙ c .if1 .taken)
+returns-2 c =
+    let found = c .before .before .before in
+    rw (← found .before .before .head-of .ensures, found .t .given .1, sym (c .before .is-late .ensures) ∙ c .if1 .taken)
 
 returns-3 : tie.Need-returns-3
-returns-3 c = rw (← c .before .before .before .before .before .head-of .ensures, c .before .before .before .t .given .1, sym (c .before .is-late .ensures) ∙ c .if1 .left)
+returns-3 c =
+    let found = c .before .before .before in
+    rw (← found .before .before .head-of .ensures, found .t .given .1, sym (c .before .is-late .ensures) ∙ c .if1 .left)
 
 pub stable-head-spec : {M : Type 1} → statement M
 stable-head-spec =

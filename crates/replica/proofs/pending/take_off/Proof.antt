@@ -91,7 +91,8 @@ returns c =
     let a = l .before .before .args in
     let none = left-none (a .r .count) (a .r .pending) (l .loop .i) (omega (arith, l .before .pending-count .ensures .0)) in
     let front = sym (append-nil (take (l .loop .kept) (l .loop .next .pending))) ∙ (rw none at (l .loop .inv .4)) in
-    ap (λ (p : List Pending). withPending p (stateOf (l .loop .next))) front ∙ ap (λ (s : State). withPending (keep (λ p. not (inBatch (a .group) (a .t) p)) (waiting (a .r))) s) (l .loop .inv .5)
+    let stay = keep (λ p. not (inBatch (a .group) (a .t) p)) (waiting (a .r)) in
+    ap (λ (p : List Pending). withPending p (stateOf (l .loop .next))) front ∙ ap (λ (s : State). withPending stay s) (l .loop .inv .5)
 
 pub take-off-spec : {M : Type 1} → statement M
 take-off-spec =

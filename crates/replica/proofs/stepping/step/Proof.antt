@@ -1,9 +1,9 @@
 -- The questions are asked by themselves: on a yes, the visits send from the start of the output.
 use Prim.Native.Nat.{ℕ}
-use mathlib.Core.Path.{_≡_, refl, sym, ap, _∙_}
+use mathlib.Core.Path.{_≡_, refl, ap, _∙_}
 use native.Mathlib.Omega.{arith}
 use Rattle.question.specs.Question.{given, next, outcome}
-use Rattle.rules.specs.Replica.{State, Stepped, visits, stepped, step}
+use Rattle.rules.specs.Replica.{State, visits, stepped, step}
 use Rattle.replica.specs.State.{stateOf}
 use Rattle.replica.specs.Output.{sends}
 use Rattle.replica.proofs.Asked.{step-next}
@@ -45,9 +45,9 @@ returns c =
     let asked = timed .before .before .before in
     let a = asked .before .before .args in
     let finished =
-        done .visits .ensures
-        ∙ (ap (λ (t : State). sends 0 (a .output .now) (visits (t .settings .groups) (a .at) t)) (timed .at-time .ensures)
-        ∙ stepped-sends (stateOf (a .r)) (a .at) (a .output .now)) in
+    done .visits .ensures
+    ∙ (ap (λ (t : State). sends 0 (a .output .now) (visits (t .settings .groups) (a .at) t)) (timed .at-time .ensures)
+    ∙ stepped-sends (stateOf (a .r)) (a .at) (a .output .now)) in
     rw (decided asked, timed .before .enum-told .given .1, ← finished)
     (refl, (refl, (refl, λ q e. absurd (let z : _≡_ {A = ℕ} 0 1 = cc in omega arith))))
 

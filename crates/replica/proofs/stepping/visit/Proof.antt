@@ -1,14 +1,15 @@
 -- What was sent so far, and what the looks that are left send behind it, is what 64 looks send. Those are enough.
 use Prim.Native.Nat.{_+_, _*_, _-_, _≤_}
 use mathlib.Core.Path.{_≡_, refl, sym, ap, _∙_}
+use mathlib.Core.Bool.{true}
 use native.Mathlib.Omega.{arith}
 use lib.ListN.{length, length-map, length-take}
-use Rattle.rules.specs.Batch.{Effect, still}
-use Rattle.rules.specs.Replica.{State, Stepped, handleBatch, visit}
+use Rattle.rules.specs.Batch.{still}
+use Rattle.rules.specs.Replica.{Stepped, groupTimestamp, batchOf, isStable, visit}
 use Rattle.replica.specs.State.{waiting, stateOf}
 use Rattle.replica.specs.Output.{sends, reached}
 use Rattle.replica.proofs.Stable.{late-yes, late-no}
-use Rattle.replica.proofs.Visited.{sends-still, sends-follow, visit-over, visit-goes, visit-enough, visit-settings}
+use Rattle.replica.proofs.Visited.{sends-as, sends-still, visit-over, visit-enough, visit-sends}
 use borrow.Author.Needs.{needs}
 use Rattle.replica.proofs.stepping.visit.Statement.{statement}
 use Rattle.replica.proofs.stepping.visit.Tie as tie
@@ -39,9 +40,22 @@ over : (c : tie.At-loop Inv-loop μ-loop) →
 over c e =
     let a = c .before .before .before .args in
     let s = stateOf (a .p .replica) in
-    sym (ap (λ (d : Effect State). sends (c .loop .count) (c .loop .output) d) e ∙ sends-still (c .loop .count) (c .loop .output) (stateOf (c .loop .r)))
-    ∙ (c .loop .inv .3
-    ∙ ap (λ (d : Effect State). sends (a .p .count) (a .output .now) d) (visit-enough (a .group) (a .at) 64 (length (s .pending)) s (enough (c .before .before .before)) (omega arith)))
+    let all = visit-enough (a .group) (a .at) (length (s .pending)) 64 s (omega arith) (enough (c .before .before .before)) in
+    let count = c .loop .count in
+    let output = c .loop .output in
+    sends-as (a .p .count) (a .output .now) all (sends-as count output e (sym (sends-still count output (stateOf (c .loop .r)))) ∙ c .loop .inv .3)
+
+-- a head that is found is the group's, and its batch is stable
+late : (c : tie.After-t Inv-loop μ-loop) →
+    let l = c .before .before .before .before in
+    let a = l .before .before .before .args in
+    let s = stateOf (l .loop .r) in
+    (c .t .given .0 .0 ≡ groupTimestamp (a .group) (s .pending)) × (isStable (s .settings .delta) (a .at) (batchOf (a .group) (s .pending)) ≡ true)
+late c =
+    let l = c .before .before .before .before in
+    let a = l .before .before .before .args in
+    let s = stateOf (l .loop .r) in
+    late-yes (s .settings .delta) (a .at) (a .group) (s .pending) (sym (c .before .before .stable-head .ensures) ∙ c .t .given .1)
 
 loop-holds : tie.Need-loop-holds Inv-loop μ-loop
 loop-holds c = (omega arith, omega arith, refl, refl)
@@ -67,12 +81,7 @@ enum-known-t : tie.Need-enum-known-t Inv-loop μ-loop
 enum-known-t c = search needs
 
 handle-batch-requires : tie.Need-handle-batch-requires Inv-loop μ-loop
-handle-batch-requires c κs =
-    let found = c .before .before in
-    let l = found .before .before .before .before in
-    let a = l .before .before .before .args in
-    let s = stateOf (l .loop .r) in
-    (late-yes (s .settings .delta) (a .at) (a .group) (s .pending) (sym (found .before .before .stable-head .ensures) ∙ found .t .given .1) .0, omega arith)
+handle-batch-requires c κs = (late (c .before .before) .0, omega arith)
 
 sub-looks : tie.Need-sub-looks Inv-loop μ-loop
 sub-looks c = search needs
@@ -86,18 +95,12 @@ loop-again c =
     let found = done .before .before .before in
     let l = found .before .before .before .before in
     let a = l .before .before .before .args in
-    let s = stateOf (l .loop .r) in
-    let looks = l .loop .looks in
-    let late = late-yes (s .settings .delta) (a .at) (a .group) (s .pending) (sym (found .before .before .stable-head .ensures) ∙ found .t .given .1) in
-    let goes = visit-goes (a .group) (a .at) looks s (found .before .before .before .loop-test .taken) (late .1) in
-    let rest : State → Effect State = λ t. visit (a .group) (a .at) (looks - 1) t in
-    let batch = handleBatch (a .group) s in
-    let both = sends-follow (l .loop .count) (l .loop .output) batch rest (visit-settings (a .group) (a .at) (looks - 1) (batch .state)) in (
+    let look = visit-sends (a .group) (a .at) (l .loop .count) (l .loop .output) (l .loop .looks) (stateOf (l .loop .r)) (found .before .before .before .loop-test .taken) (late found .1) in (
       omega arith,
       omega (arith, done .handle-batch .ensures .1),
       done .handle-batch .kept .1 .1 .1 .0 ∙ l .loop .inv .2,
-      ap (λ (d : Stepped). sends (d .count) (d .output) (rest (d .state))) (done .handle-batch .ensures .0)
-          ∙ (sym (ap (λ (d : Effect State). sends (l .loop .count) (l .loop .output) d) goes ∙ both) ∙ l .loop .inv .3),
+      ap (λ (d : Stepped). sends (d .count) (d .output) (visit (a .group) (a .at) (l .loop .looks - 1) (d .state))) (done .handle-batch .ensures .0)
+          ∙ (sym look ∙ l .loop .inv .3),
     )
 
 same-length-2 : tie.Need-same-length-2 Inv-loop μ-loop

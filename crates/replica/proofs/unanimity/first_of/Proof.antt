@@ -1,8 +1,8 @@
 -- No request passed is of the batch, so the batch is what is left of it.
 use Prim.Native.Nat.{_≤_, _-_}
-use mathlib.Core.Path.{_≡_, refl, sym, _∙_}
+use mathlib.Core.Path.{_≡_, refl}
 use native.Mathlib.Omega.{arith}
-use lib.ListN.{length, drop}
+use lib.ListN.{drop}
 use Rattle.replica.specs.State.{waiting, free}
 use Rattle.replica.specs.Head.{batchAt}
 use Rattle.replica.proofs.Left.{left-next, left-none}

@@ -1,7 +1,6 @@
-use Rattle.rules.specs.declared.Pending.{Pending}
 -- What was seen so far, and that what is left agrees, is that all agree.
 use Prim.Native.Nat.{_+_, _≤_, _-_}
-use mathlib.Core.Path.{_≡_, refl, sym, ap, _∙_}
+use mathlib.Core.Path.{_≡_, refl, sym, _∙_}
 use mathlib.Core.Bool.{false, _&&_, and-true}
 use native.Mathlib.Nat.{add-zero}
 use native.Mathlib.Omega.{arith}
