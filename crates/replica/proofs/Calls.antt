@@ -5,8 +5,8 @@ use mathlib.Core.List.{List, _++_}
 use native.Mathlib.Omega.{arith}
 use Rattle.question.specs.Question.{Answer, given, refused, after, bind}
 use Rattle.record.specs.declared.message.Message.{Message}
-use Rattle.rules.specs.Batch.{Effect, follow}
-use Rattle.rules.specs.Replica.{State, Stepped, step}
+use Rattle.rules.specs.Batch.{Settings, Effect, follow}
+use Rattle.rules.specs.Replica.{State, Stepped, newState, step}
 use Rattle.rules.specs.Run.{Call, sentBy, call, run}
 use Rattle.replica.specs.State.{stateOf, stepAnswer}
 use Rattle.replica.specs.Run.{found, Does, delivers, steps, Runs, start, then}
@@ -50,3 +50,8 @@ runs-mean (then {calls = calls} {sent = sent} d rest) =
     let others = runs-mean rest in
     ap (λ (e : Effect State). record { state = e .state; sent = sent ++ e .sent }) others
     ∙ ap (λ (e : Effect State). follow e (λ t. run t calls)) one
+
+-- a replica newly made
+pub made-runs-mean : (u : Settings) (number : ℕ) {r r′ : Replica} {calls : List Call} {sent : List Message}
+    → stateOf r ≡ newState u number → Runs r r′ calls sent → effect r′ sent ≡ run (newState u number) calls
+made-runs-mean u number e runs = rw (← e) (runs-mean runs)

@@ -5,5 +5,6 @@ pub mod Compact
 pub mod Written
 pub mod Stable
 pub mod Handled
+pub mod Sends
 pub mod Visited
 pub mod Calls

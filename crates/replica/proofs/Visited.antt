@@ -1,53 +1,21 @@
 -- A visit, look by look: where the batch is not stable it is over, and more looks than there are pending requests change nothing.
-use Prim.Native.Nat.{ℕ, zero, suc, _+_, _-_, _≤_, _<_}
+use Prim.Native.Nat.{ℕ, zero, suc, _-_, _≤_, _<_}
 use mathlib.Core.Path.{_≡_, refl, sym, ap, _∙_}
 use mathlib.Core.Bool.{Bool, true, false}
-use mathlib.Core.List.{List, [], _∷_, _++_}
-use native.Mathlib.Nat.{add-zero}
+use mathlib.Core.List.{List, [], _∷_}
 use native.Mathlib.Numerals.{sub-one}
 use native.Mathlib.Omega.{arith}
-use lib.ListN.{length, length-append}
+use lib.ListN.{length}
 use Rattle.record.specs.declared.clock.LocalTime.{LocalTime}
 use Rattle.rules.specs.Batch.{Effect, still, follow}
-use Rattle.rules.specs.Replica.{State, Stepped, batchOf, isStable, handleBatch, visit, visits, atTime, stepped}
+use Rattle.rules.specs.Replica.{State, batchOf, isStable, handleBatch, visit}
 use Rattle.rules.specs.declared.Pending.{Pending}
 use Rattle.laws.proofs.Lists.{case}
 use Rattle.laws.proofs.Least.{stable-some, others-fewer}
 use Rattle.laws.proofs.Visits.{visit-all}
-use Rattle.laws.proofs.Keeps.{batch-keeps, visits-keep}
-use Rattle.replica.specs.Output.{writeAt, sends}
-use Rattle.replica.proofs.Written.{write-none, write-append}
-
--- ── what is sent ──
-
--- the state, the number of messages and the output, each by itself
-pub stepped-is : {s t : State} {c d : ℕ} {o p : List ℕ} → s ≡ t → c ≡ d → o ≡ p
-    → _≡_ {A = Stepped} (record { state = s; count = c; output = o }) (record { state = t; count = d; output = p })
-stepped-is e i j = rw (e, i, j)
-
--- what an effect sends, by what the effect is
-pub sends-as : (count : ℕ) (output : List ℕ) {e d : Effect State} {x : Stepped} → e ≡ d → x ≡ sends count output d → x ≡ sends count output e
-sends-as count output e i = rw e i
-
--- nothing more is sent
-pub sends-still : (count : ℕ) (output : List ℕ) (s : State) → sends count output (still s) ≡ record { state = s; count = count; output = output }
-sends-still count output s = rw (add-zero count, write-none (s .settings .k) (s .settings .groups) count output)
-
--- one thing after another: the later messages stand behind the earlier
-pub sends-follow : (count : ℕ) (output : List ℕ) (e : Effect State) (next : State → Effect State)
-    → next (e .state) .state .settings ≡ e .state .settings
-    → sends count output (follow e next)
-    ≡ sends (sends count output e .count) (sends count output e .output) (next (e .state))
-sends-follow count output e next same =
-    stepped-is refl amount (rw same (write-append (e .state .settings .k) (e .state .settings .groups) count (e .sent) (more .sent) output))
-  where
-    more : Effect State
-    more = next (e .state)
-
-    amount : count + length (e .sent ++ more .sent) ≡ count + length (e .sent) + length (more .sent)
-    amount = omega (arith, length-append (e .sent) (more .sent))
-
--- ── looks ──
+use Rattle.laws.proofs.Keeps.{batch-keeps}
+use Rattle.replica.specs.Output.{sends}
+use Rattle.replica.proofs.Sends.{sends-follow}
 
 module _ (group : ℕ) (now : LocalTime) where
   abbrev stable : State → Bool
@@ -94,10 +62,3 @@ module _ (group : ℕ) (now : LocalTime) where
       let rest : State → Effect State = λ t. visit group now (looks - 1) t in
       ap (λ (d : Effect State). sends count output d) (visit-goes looks s h e)
       ∙ sends-follow count output (handleBatch group s) rest (visit-settings (looks - 1) (handleBatch group s .state))
-
--- a step sends from the start of the output
-pub stepped-sends : (s : State) (now : LocalTime) (output : List ℕ)
-    → sends 0 output (visits (s .settings .groups) now (atTime s now)) ≡ stepped s now output
-unfolding stepped writeAt
-stepped-sends s now output =
-    stepped-is refl (omega arith) (rw (visits-keep (s .settings .groups) now (atTime s now) .settings))

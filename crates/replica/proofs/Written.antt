@@ -13,11 +13,11 @@ use Rattle.question.specs.Question.{Answer, given, refused, after, unitQuestion
 use Rattle.record.specs.Layout.{bytesOf}
 use Rattle.record.specs.Record.{messageQuestions, messageFields, writeMessage}
 use Rattle.record.specs.declared.message.Message.{Message}
+use Rattle.rules.specs.Lists.{upTo}
+use Rattle.rules.specs.Replica.{writeAll}
 use Rattle.question.proofs.Questions.{within-true}
 use Rattle.record.proofs.Layouts.{length-bytes-of}
 use Rattle.record.proofs.Record.{write-given, write-writable}
-use Rattle.rules.specs.Lists.{upTo}
-use Rattle.rules.specs.Replica.{writeAll}
 use Rattle.laws.proofs.Lists.{length-upTo}
 use Rattle.replica.specs.Output.{writeAt}
 

@@ -2,7 +2,8 @@
 // says of the state that the struct stands for, for any value of any parameter.
 //
 // Read on in this order: `state` (the struct), `making`, `delivery`; then for a step `pending` (the
-// batch of a group), `unanimity`, `output` (the messages), `handle` (one batch), `stepping`.
+// batch of a group), `unanimity`, `output` (the messages), `handle` (one batch), `stepping`. That any
+// run of these calls is the rules' run: specs/Run.antt says it, proofs/Calls.antt shows it.
 mod delivery;
 mod handle;
 mod making;

@@ -79,8 +79,11 @@ playOn s entry output = bind entry (λ e. playEntry s e output)
 
 -- ── the answers of the code: document 01's number and values for each case ──
 
+abbrev pub settingsOf : Setup → Settings
+settingsOf s = record { k = s .k; groups = s .groups; owner = s .owner; delta = s .delta }
+
 abbrev pub setupAnswer : SetupRead → Answer Settings
-setupAnswer (SetupRead.Accepted s) = given (record { k = s .k; groups = s .groups; owner = s .owner; delta = s .delta })
+setupAnswer (SetupRead.Accepted s) = given (settingsOf s)
 setupAnswer (SetupRead.Refused number) = refused number
 
 -- the request of a delivery is in the record

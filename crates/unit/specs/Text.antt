@@ -13,10 +13,10 @@ use Rattle.rules.specs.Replica.{State}
 use Rattle.unit.specs.declared.text.Line.{Line}
 
 -- how many decimal digits a 64-bit number has
-abbrev pub places : ℕ → ℕ
+unfoldable pub places : ℕ → ℕ
 places n = tally (λ i. leb (10 ^ i) n) 19 + 1
 
-abbrev pub decimal : ℕ → List ℕ
+unfoldable pub decimal : ℕ → List ℕ
 decimal n = digits 10 (places n) n
 
 -- each number with a space before it
@@ -41,12 +41,16 @@ noWord = 110 ∷ 111 ∷ []
 abbrev pub cardWord : List ℕ
 cardWord = 99 ∷ 97 ∷ 114 ∷ 100 ∷ []
 
--- a reply: replica, group, process, timestamp, variable, value; a halt: the first four
+-- the numbers that every message's line begins with
+abbrev pub firstFour : Message → List ℕ
+firstFour m = m .replica ∷ m .group ∷ m .process ∷ m .timestamp .0 ∷ []
+
+-- a reply: the first four, its variable and its value; a halt: the first four
 abbrev pub messageLine : Message → List ℕ
 messageLine m =
     cond (eqb (m .kind) reply)
-    (line replyWord (m .replica ∷ m .group ∷ m .process ∷ m .timestamp .0 ∷ m .variable ∷ m .value ∷ []))
-    (line haltWord (m .replica ∷ m .group ∷ m .process ∷ m .timestamp .0 ∷ []))
+    (line replyWord (firstFour m ++ (m .variable ∷ m .value ∷ [])))
+    (line haltWord (firstFour m))
 
 -- a refused record: its place, from 1, and the number
 abbrev pub refusalLine : ℕ → ℕ → List ℕ

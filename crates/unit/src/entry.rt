@@ -1,12 +1,13 @@
 // What a 40-byte record of the journal means.
 ghost use mathlib.Core.Path.{_≡_};
 ghost use mathlib.Core.List.{[], _∷_};
-ghost use mathlib.Core.Bool.{_&&_};
 ghost use Prim.Native.Nat.{_+_, _≤_};
+ghost use lib.Dec.{eqb};
 ghost use lib.ListN.{length};
-ghost use Rattle.question.specs.Question.{given, worked, ask, outcome};
+ghost use Rattle.question.specs.Question.{_else_, given, worked, ask, outcome};
 ghost use Rattle.record.specs.Layout.{field};
-ghost use Rattle.unit.specs.Entry.{zeroFrom, settingsIn, entryIn, setupQuestions, entryQuestions, readSetup, readEntry, setupAnswer, entryAnswer};
+ghost use Rattle.rules.specs.Replica.{makeQuestions};
+ghost use Rattle.unit.specs.Entry.{zeroFrom, settingsIn, settingsOf, setupQuestions, readSetup, setupAnswer, entryIn, entryQuestions, readEntry, entryAnswer};
 use question::Outcome;
 use question::ask;
 use question::is_within;
@@ -71,19 +72,35 @@ fn wide(x: u8) -> u64
     x as u64
 }
 
-// Questions 19, 5 and 20 of a setup, whose length is 40.
+// Question 18.
+fn is_whole(bytes: &[u8]) -> bool
+    ensures { λ b. ⌜ b ≡ eqb (length (now (bytes .entry))) 40 ⌝ }
+{
+    bytes.len() == 40
+}
+
+// Questions 19, 5 and 20: a known kind, a replica that is there, zeros where they must be.
+fn check_in_order(known: bool, there: bool, zero: bool) -> Outcome
+    ensures { λ o. ⌜ outcome o ≡ ask ((known else 19) ∷ (there else 5) ∷ (zero else 20) ∷ []) (given worked) ⌝ }
+{
+    let q20 = ask(zero, 20, Outcome::Done);
+    let q5 = ask(there, 5, q20);
+    ask(known, 19, q5)
+}
+
+// The questions of a setup that is whole.
 fn check_setup(bytes: &[u8]) -> Outcome
     requires { ⌜ length (now bytes) ≡ 40 ⌝ }
     ensures { λ o. ⌜ outcome o ≡ ask (setupQuestions (now (bytes .entry))) (given worked) ⌝ }
 {
     let zero = is_zero_from(bytes, 2, 6) & is_zero_from(bytes, 19, 21);
-    let q20 = ask(zero, 20, Outcome::Done);
-    let q5 = ask(bytes[1] == 0, 5, q20);
-    ask(bytes[0] == SETUP, 19, q5)
+    check_in_order(bytes[0] == SETUP, bytes[1] == 0, zero)
 }
 
 // Questions 1 to 4, by making the unit's first replica.
-fn accept_setup(s: Setup) -> SetupRead {
+fn accept_setup(s: Setup) -> SetupRead
+    ensures { λ r. ⌜ setupAnswer r ≡ ask (makeQuestions (settingsOf s) 1) (given (settingsOf s)) ⌝ }
+{
     let m = replica::make(s.k, s.groups, s.owner, s.delta, 1);
     let made = m.outcome;
     match made {
@@ -94,6 +111,7 @@ fn accept_setup(s: Setup) -> SetupRead {
 
 fn setup_in(bytes: &[u8]) -> Setup
     requires { ⌜ length (now bytes) ≡ 40 ⌝ }
+    ensures { λ s. ⌜ settingsOf s ≡ settingsIn (now (bytes .entry)) ⌝ }
 {
     Setup {
         k: bytes[16],
@@ -107,7 +125,7 @@ fn setup_in(bytes: &[u8]) -> Setup
 pub fn read_setup(bytes: &[u8]) -> SetupRead
     ensures { λ r. ⌜ setupAnswer r ≡ readSetup (now (bytes .entry)) ⌝ }
 {
-    if bytes.len() != 40 {
+    if !is_whole(bytes) {
         return SetupRead::Refused(18);
     }
     match check_setup(bytes) {
@@ -116,7 +134,7 @@ pub fn read_setup(bytes: &[u8]) -> SetupRead
     }
 }
 
-// Questions 19, 5 and 20 of a later record, whose length is 40.
+// The questions of a later record that is whole.
 fn check_entry(k: u8, bytes: &[u8]) -> Outcome
     requires { ⌜ length (now bytes) ≡ 40 ⌝ }
     ensures { λ o. ⌜ outcome o ≡ ask (entryQuestions k (now (bytes .entry))) (given worked) ⌝ }
@@ -124,13 +142,14 @@ fn check_entry(k: u8, bytes: &[u8]) -> Outcome
     let kind = bytes[0];
     let number = bytes[1];
     let zero = is_zero_from(bytes, 2, 6) & ((kind == DELIVERY) | is_zero_from(bytes, 16, 24));
-    let q20 = ask(zero, 20, Outcome::Done);
-    let q5 = ask(is_within(1, 2 * k as u64 + 1, number as u64), 5, q20);
-    ask(is_within(2, 3, kind as u64), 19, q5)
+    let known = is_within(2, 3, kind as u64);
+    let there = is_within(1, 2 * k as u64 + 1, number as u64);
+    check_in_order(known, there, zero)
 }
 
 fn entry_in(bytes: &[u8]) -> EntryRead
     requires { ⌜ length (now bytes) ≡ 40 ⌝ }
+    ensures { λ r. ⌜ entryAnswer (now (bytes .entry)) r ≡ given (entryIn (now (bytes .entry))) ⌝ }
 {
     let number = bytes[1];
     let at = LocalTime(time_in(bytes));
@@ -144,7 +163,7 @@ fn entry_in(bytes: &[u8]) -> EntryRead
 pub fn read_entry(k: u8, bytes: &[u8]) -> EntryRead
     ensures { λ r. ⌜ entryAnswer (now (bytes .entry)) r ≡ readEntry k (now (bytes .entry)) ⌝ }
 {
-    if bytes.len() != 40 {
+    if !is_whole(bytes) {
         return EntryRead::Refused(18);
     }
     match check_entry(k, bytes) {

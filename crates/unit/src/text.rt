@@ -4,7 +4,7 @@ ghost use mathlib.Core.List.{[], _∷_, _++_};
 ghost use Prim.Native.Nat.{_+_, _≤_};
 ghost use lib.ListN.{length};
 ghost use Rattle.replica.specs.State.{stateOf};
-ghost use Rattle.unit.specs.Text.{textOf, decimal, spaced, messageLine, refusalLine, cardLine};
+ghost use Rattle.unit.specs.Text.{textOf, decimal, spaced, firstFour, messageLine, refusalLine, cardLine};
 use record::Message;
 use replica::Replica;
 
@@ -64,10 +64,10 @@ fn end_line(l: Line) -> Line
     put_word(l, b"\n")
 }
 
-// The first four numbers of a message's line.
-fn put_sender(l: Line, m: Message) -> Line
+// The line with a message's first four numbers after it.
+fn put_first_four(l: Line, m: Message) -> Line
     requires { ⌜ l .length ≤ 8 ⌝ }
-    ensures text { λ r. ⌜ textOf r ≡ textOf l ++ spaced (m .replica ∷ m .group ∷ m .process ∷ m .timestamp .0 ∷ []) ⌝ }
+    ensures text { λ r. ⌜ textOf r ≡ textOf l ++ spaced (firstFour m) ⌝ }
     ensures long { λ r. ⌜ r .length ≤ l .length + 84 ⌝ }
 {
     let a = put_number(l, m.replica as u64);
@@ -80,23 +80,26 @@ pub fn message_line(m: Message) -> Line
     ensures { λ l. ⌜ textOf l ≡ messageLine m ⌝ }
 {
     if m.kind == REPLY {
-        let a = put_sender(new_line(b"reply"), m);
+        let a = put_first_four(new_line(b"reply"), m);
         let b = put_number(a, m.variable as u64);
         return end_line(put_number(b, m.value as u64));
     }
-    end_line(put_sender(new_line(b"halt"), m))
+    end_line(put_first_four(new_line(b"halt"), m))
 }
 
 pub fn refusal_line(place: u64, number: u8) -> Line
     ensures { λ l. ⌜ textOf l ≡ refusalLine place number ⌝ }
 {
-    end_line(put_number(put_number(new_line(b"no"), place), number as u64))
+    let a = put_number(new_line(b"no"), place);
+    end_line(put_number(a, number as u64))
 }
 
 pub fn card_line(r: Replica) -> Line
     ensures { λ l. ⌜ textOf l ≡ cardLine (stateOf r) ⌝ }
 {
+    let failed = r.variables[0] as u64;
+    let writes = r.writes;
     let a = put_number(new_line(b"card"), r.number as u64);
-    let b = put_number(a, r.variables[0] as u64);
-    end_line(put_number(b, r.writes))
+    let b = put_number(a, failed);
+    end_line(put_number(b, writes))
 }

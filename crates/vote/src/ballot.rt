@@ -1,8 +1,7 @@
 // A ballot: what was heard so far of each replica, at the index that is its number.
 ghost use mathlib.Core.Path.{_≡_};
-use question::Outcome;
-use question::ask;
-use question::check_unit;
+ghost use Rattle.rules.specs.Vote.{counts, halts};
+ghost use Rattle.vote.specs.Ballot.{newBallot, hearReply, hearHalt, hear, messageOf};
 use record::Message;
 use record::Timestamp;
 use rules::Query;
@@ -12,8 +11,8 @@ const REPLY: u8 = 3;
 const HALT: u8 = 4;
 
 pub struct Ballot {
-    // Questions 1, 2 and 16.
-    pub outcome: Outcome,
+    // Question 16: the list has at most 64 messages.
+    pub short: bool,
     // Whose first counting reply came, and its value.
     pub heard: [bool; 8],
     pub values: [u32; 8],
@@ -21,19 +20,44 @@ pub struct Ballot {
     pub halted: [bool; 8],
 }
 
-pub(crate) fn new_ballot(k: u8, n: u8, length: usize) -> Ballot {
-    let outcome = check_unit(k, n, ask(length <= 64, 16, Outcome::Done));
+pub(crate) fn new_ballot(length: usize) -> Ballot
+    ensures { λ r. ⌜ r ≡ newBallot length ⌝ }
+{
     Ballot {
-        outcome,
+        short: length <= 64,
         heard: [false; 8],
         values: [0u32; 8],
         halted: [false; 8],
     }
 }
 
-// A reply that counts; only the first of each replica does.
-fn hear_reply(b: Ballot, q: Query, m: Message) -> Ballot {
-    let i = m.replica as usize;
+// A reply that counts: it passes, and matches all four.
+fn counts(k: u8, n: u8, q: Query, m: Message) -> bool
+    ensures { λ r. ⌜ r ≡ counts k n q m ⌝ }
+{
+    let sent = m.timestamp;
+    let asked = q.timestamp;
+    let passes = record::passes(k, n, m);
+    passes
+        & (m.kind == REPLY)
+        & (m.group == q.group)
+        & (m.process == q.process)
+        & (m.variable == q.variable)
+        & (sent.0 == asked.0)
+}
+
+// A halt that counts: it passes, and matches group and process.
+fn halts(k: u8, n: u8, group: u8, process: u8, m: Message) -> bool
+    ensures { λ r. ⌜ r ≡ halts k n group process m ⌝ }
+{
+    record::passes(k, n, m) & (m.kind == HALT) & (m.group == group) & (m.process == process)
+}
+
+// The first reply of a replica is noted.
+fn hear_reply(b: Ballot, replica: u8, value: u32) -> Ballot
+    ensures { λ r. ⌜ r ≡ hearReply b replica value ⌝ }
+{
+    let i = replica as usize;
     if 8 <= i {
         return b;
     }
@@ -41,13 +65,15 @@ fn hear_reply(b: Ballot, q: Query, m: Message) -> Ballot {
         return b;
     }
     let mut next = b;
-    next.heard[i] = (m.variable == q.variable) & (m.timestamp.0 == q.timestamp.0);
-    next.values[i] = m.value;
+    next.heard[i] = true;
+    next.values[i] = value;
     next
 }
 
-fn hear_halt(b: Ballot, m: Message) -> Ballot {
-    let i = m.replica as usize;
+fn hear_halt(b: Ballot, replica: u8) -> Ballot
+    ensures { λ r. ⌜ r ≡ hearHalt b replica ⌝ }
+{
+    let i = replica as usize;
     if 8 <= i {
         return b;
     }
@@ -69,7 +95,9 @@ pub(crate) fn hear(
     variable: u16,
     timestamp: u64,
     value: u32,
-) -> Ballot {
+) -> Ballot
+    ensures { λ r. ⌜ r ≡ hear k n q b (messageOf kind group process replica variable timestamp value) ⌝ }
+{
     let m = Message {
         kind,
         group,
@@ -79,12 +107,11 @@ pub(crate) fn hear(
         timestamp: Timestamp(timestamp),
         value,
     };
-    let ours = record::passes(k, n, m) & (group == q.group) & (process == q.process);
-    if !ours {
-        return b;
+    if counts(k, n, q, m) {
+        return hear_reply(b, replica, value);
     }
-    if kind == REPLY {
-        return hear_reply(b, q, m);
+    if halts(k, n, q.group, q.process, m) {
+        return hear_halt(b, replica);
     }
-    hear_halt(b, m)
+    b
 }

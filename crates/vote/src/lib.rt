@@ -6,7 +6,6 @@ mod ballot;
 mod count;
 mod tally;
 
-pub use ballot::Ballot;
 pub use count::HaltAnswer;
 pub use count::VoteAnswer;
 pub use tally::count_halts;

@@ -1,3 +1,4 @@
+-- The array has 64 elements, so there is a place behind the pending ones.
 use mathlib.Core.Path.{_≡_, sym, _∙_}
 use native.Mathlib.Omega.{arith}
 use native.Mathlib.Numerals.{add-one}

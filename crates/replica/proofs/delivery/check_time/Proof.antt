@@ -1,6 +1,6 @@
 -- Each call puts one question in front of what was asked before.
-use Rattle.question.specs.Question.{ask}
 use borrow.Author.Needs.{needs}
+use Rattle.question.specs.Question.{ask}
 use Rattle.replica.proofs.delivery.check_time.Statement.{statement}
 use Rattle.replica.proofs.delivery.check_time.Tie as tie
 

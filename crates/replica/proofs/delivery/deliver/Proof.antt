@@ -3,11 +3,11 @@ use Prim.Native.Nat.{ℕ}
 use mathlib.Core.Path.{_≡_, refl, sym, ap, _∙_}
 use native.Mathlib.Omega.{arith}
 use lib.ListN.{length, length-map, length-take}
+use borrow.Author.Needs.{needs}
 use Rattle.record.specs.Record.{requestAnswer}
 use Rattle.rules.specs.Replica.{deliver}
 use Rattle.replica.specs.State.{stateOf}
 use Rattle.replica.proofs.Asked.{admit-place}
-use borrow.Author.Needs.{needs}
 use Rattle.replica.proofs.delivery.deliver.Statement.{statement}
 use Rattle.replica.proofs.delivery.deliver.Tie as tie
 

@@ -5,13 +5,13 @@ use mathlib.Core.List.{[], _∷_}
 use native.Mathlib.Omega.{arith}
 use lib.ListN.{length-map}
 use borrow.Author.Tests.{not-true, not-false}
+use borrow.Author.Needs.{needs}
 use Rattle.rules.specs.Batch.{perform, fail, replyTo}
 use Rattle.rules.specs.Replica.{State}
 use Rattle.replica.specs.State.{waiting, stateOf, withStore}
 use Rattle.replica.specs.Head.{batchAt}
 use Rattle.replica.proofs.Handled.{handled-reads, handled-still, handled-write, handled-fails}
-use Rattle.replica.proofs.Visited.{stepped-is, sends-as, sends-still}
-use borrow.Author.Needs.{needs}
+use Rattle.replica.proofs.Sends.{stepped-is, sends-as, sends-still}
 use Rattle.replica.proofs.handle.handle_batch.Statement.{statement}
 use Rattle.replica.proofs.handle.handle_batch.Tie as tie
 

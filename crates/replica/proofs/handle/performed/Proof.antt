@@ -1,3 +1,4 @@
+-- The array has 256 elements: a write past it changes nothing.
 use mathlib.Core.Path.{_≡_, sym, _∙_}
 use native.Mathlib.Omega.{arith}
 use lib.ListN.{length, length-map}

@@ -1,6 +1,6 @@
 -- Each call puts one question in front of what was asked before: the last call comes first.
-use Rattle.question.specs.Question.{ask}
 use borrow.Author.Needs.{needs}
+use Rattle.question.specs.Question.{ask}
 use Rattle.replica.proofs.making.check_make.Statement.{statement}
 use Rattle.replica.proofs.making.check_make.Tie as tie
 

@@ -1,10 +1,10 @@
 -- The questions are asked by themselves: on a yes, a new replica is given.
 use mathlib.Core.Path.{_≡_, refl}
+use borrow.Author.Needs.{needs}
 use Rattle.question.specs.Question.{given, next, outcome}
 use Rattle.rules.specs.Replica.{makeQuestions, newState, make}
 use Rattle.question.proofs.Questions.{next-asked}
 use Rattle.replica.specs.State.{settings}
-use borrow.Author.Needs.{needs}
 use Rattle.replica.proofs.making.make.Statement.{statement}
 use Rattle.replica.proofs.making.make.Tie as tie
 

@@ -1,7 +1,8 @@
+-- The part of the output that is lent begins where the last message ended.
 use mathlib.Core.Path.{sym}
 use native.Mathlib.Omega.{arith}
-use Rattle.replica.proofs.Written.{write-part, write-full}
 use borrow.Author.Needs.{needs}
+use Rattle.replica.proofs.Written.{write-part, write-full}
 use Rattle.replica.proofs.output.put.Statement.{statement}
 use Rattle.replica.proofs.output.put.Tie as tie
 

@@ -1,16 +1,15 @@
-use Rattle.replica.proofs.Written.{write-up-to}
 -- The halts of the processes so far are written; where k is no unit's, none ever is.
 use Prim.Native.Nat.{_+_, _≤_, _-_}
 use mathlib.Core.Path.{_≡_, refl, sym, _∙_}
 use mathlib.Core.List.{map}
 use native.Mathlib.Omega.{arith}
 use lib.ListN.{length, length-map}
+use borrow.Author.Needs.{needs}
 use Rattle.rules.specs.Lists.{upTo}
 use Rattle.rules.specs.Batch.{haltTo}
 use Rattle.laws.proofs.Lists.{length-upTo}
 use Rattle.replica.specs.Output.{writeAt}
-use Rattle.replica.proofs.Written.{write-none, write-no-unit}
-use borrow.Author.Needs.{needs}
+use Rattle.replica.proofs.Written.{write-up-to, write-none, write-no-unit}
 use Rattle.replica.proofs.output.send_halts.Statement.{statement}
 use Rattle.replica.proofs.output.send_halts.Tie as tie
 

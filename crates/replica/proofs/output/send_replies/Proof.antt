@@ -7,13 +7,13 @@ use mathlib.Core.List.{map}
 use native.Mathlib.Nat.{add-zero}
 use native.Mathlib.Omega.{arith}
 use lib.ListN.{length, getD, drop}
+use borrow.Author.Needs.{needs}
 use Rattle.rules.specs.Batch.{replyTo}
 use Rattle.replica.specs.State.{waiting, stateOf, free}
 use Rattle.replica.specs.Head.{inBatch, batchAt}
 use Rattle.replica.specs.Output.{writeAt}
 use Rattle.replica.proofs.Left.{left-next, left-none}
 use Rattle.replica.proofs.Written.{write-none, write-next}
-use borrow.Author.Needs.{needs}
 use Rattle.replica.proofs.output.send_replies.Statement.{statement}
 use Rattle.replica.proofs.output.send_replies.Tie as tie
 

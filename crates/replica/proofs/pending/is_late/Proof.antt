@@ -1,10 +1,10 @@
-use lib.Dec.{ltb}
-use borrow.Author.Tests.{lt-ltb, ltb-true, ltb-false}
-use Rattle.laws.proofs.Lists.{case}
+-- first + delta < at, asked as delta < at - first, which cannot wrap.
 use Prim.Native.Nat.{_+_, _-_}
 use native.Mathlib.Omega.{arith}
-use borrow.Author.Tests.{le-ltb}
+use lib.Dec.{ltb}
+use borrow.Author.Tests.{lt-ltb, ltb-true, ltb-false, le-ltb}
 use borrow.Author.Needs.{needs}
+use Rattle.laws.proofs.Lists.{case}
 use Rattle.replica.proofs.pending.is_late.Statement.{statement}
 use Rattle.replica.proofs.pending.is_late.Tie as tie
 

@@ -5,6 +5,7 @@ use mathlib.Core.Bool.{Bool, not}
 use mathlib.Core.List.{List, [], _++_, append-nil}
 use native.Mathlib.Omega.{arith}
 use lib.ListN.{length, getD, take, drop, length-set, length-map}
+use borrow.Author.Needs.{needs}
 use Rattle.rules.specs.Lists.{keep}
 use Rattle.rules.specs.Replica.{State}
 use Rattle.rules.specs.declared.Pending.{Pending}
@@ -12,7 +13,6 @@ use Rattle.replica.specs.State.{waiting, stateOf, free, withPending}
 use Rattle.replica.specs.Head.{inBatch}
 use Rattle.replica.proofs.Left.{left-next, left-none}
 use Rattle.replica.proofs.Compact.{next-same, rest-same, front-next}
-use borrow.Author.Needs.{needs}
 use Rattle.replica.proofs.pending.take_off.Statement.{statement}
 use Rattle.replica.proofs.pending.take_off.Tie as tie
 

@@ -1,5 +1,6 @@
-use Rattle.question.specs.Question.{ask}
+-- One question behind those of the time.
 use borrow.Author.Needs.{needs}
+use Rattle.question.specs.Question.{ask}
 use Rattle.replica.proofs.stepping.check_step.Statement.{statement}
 use Rattle.replica.proofs.stepping.check_step.Tie as tie
 

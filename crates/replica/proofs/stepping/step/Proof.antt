@@ -2,13 +2,13 @@
 use Prim.Native.Nat.{ℕ}
 use mathlib.Core.Path.{_≡_, refl, ap, _∙_}
 use native.Mathlib.Omega.{arith}
+use borrow.Author.Needs.{needs}
 use Rattle.question.specs.Question.{given, next, outcome}
 use Rattle.rules.specs.Replica.{State, visits, stepped, step}
 use Rattle.replica.specs.State.{stateOf}
 use Rattle.replica.specs.Output.{sends}
 use Rattle.replica.proofs.Asked.{step-next}
-use Rattle.replica.proofs.Visited.{stepped-sends}
-use borrow.Author.Needs.{needs}
+use Rattle.replica.proofs.Sends.{stepped-sends}
 use Rattle.replica.proofs.stepping.step.Statement.{statement}
 use Rattle.replica.proofs.stepping.step.Tie as tie
 

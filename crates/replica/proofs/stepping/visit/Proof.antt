@@ -4,13 +4,14 @@ use mathlib.Core.Path.{_≡_, refl, sym, ap, _∙_}
 use mathlib.Core.Bool.{true}
 use native.Mathlib.Omega.{arith}
 use lib.ListN.{length, length-map, length-take}
+use borrow.Author.Needs.{needs}
 use Rattle.rules.specs.Batch.{still}
 use Rattle.rules.specs.Replica.{Stepped, groupTimestamp, batchOf, isStable, visit}
 use Rattle.replica.specs.State.{waiting, stateOf}
 use Rattle.replica.specs.Output.{sends, reached}
 use Rattle.replica.proofs.Stable.{late-yes, late-no}
-use Rattle.replica.proofs.Visited.{sends-as, sends-still, visit-over, visit-enough, visit-sends}
-use borrow.Author.Needs.{needs}
+use Rattle.replica.proofs.Sends.{sends-as, sends-still}
+use Rattle.replica.proofs.Visited.{visit-over, visit-enough, visit-sends}
 use Rattle.replica.proofs.stepping.visit.Statement.{statement}
 use Rattle.replica.proofs.stepping.visit.Tie as tie
 
@@ -95,7 +96,9 @@ loop-again c =
     let found = done .before .before .before in
     let l = found .before .before .before .before in
     let a = l .before .before .before .args in
-    let look = visit-sends (a .group) (a .at) (l .loop .count) (l .loop .output) (l .loop .looks) (stateOf (l .loop .r)) (found .before .before .before .loop-test .taken) (late found .1) in (
+    let s = stateOf (l .loop .r) in
+    let some = found .before .before .before .loop-test .taken in
+    let look = visit-sends (a .group) (a .at) (l .loop .count) (l .loop .output) (l .loop .looks) s some (late found .1) in (
       omega arith,
       omega (arith, done .handle-batch .ensures .1),
       done .handle-batch .kept .1 .1 .1 .0 ∙ l .loop .inv .2,

@@ -4,12 +4,13 @@ use mathlib.Core.Path.{_≡_, refl, sym, ap, _∙_}
 use native.Mathlib.Numerals.{add-one}
 use native.Mathlib.Omega.{arith}
 use lib.ListN.{length}
+use borrow.Author.Needs.{needs}
 use Rattle.rules.specs.Batch.{Effect}
 use Rattle.rules.specs.Replica.{State, Stepped, visit, visits}
 use Rattle.replica.specs.State.{stateOf}
 use Rattle.replica.specs.Output.{sends, reached}
-use Rattle.replica.proofs.Visited.{sends-still, sends-follow, visit-settings}
-use borrow.Author.Needs.{needs}
+use Rattle.replica.proofs.Sends.{sends-still, sends-follow}
+use Rattle.replica.proofs.Visited.{visit-settings}
 use Rattle.replica.proofs.stepping.visits.Statement.{statement}
 use Rattle.replica.proofs.stepping.visits.Tie as tie
 

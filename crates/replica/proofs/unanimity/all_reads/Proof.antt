@@ -4,12 +4,12 @@ use mathlib.Core.Path.{_≡_, refl, sym, _∙_}
 use mathlib.Core.Bool.{_&&_, and-true}
 use native.Mathlib.Omega.{arith}
 use lib.ListN.{drop}
+use borrow.Author.Needs.{needs}
 use Rattle.rules.specs.Batch.{allReads}
 use Rattle.replica.specs.State.{waiting, free}
 use Rattle.replica.specs.Head.{batchAt}
 use Rattle.replica.proofs.Left.{left-next, left-none}
 use Rattle.replica.proofs.Agree.{reads-step}
-use borrow.Author.Needs.{needs}
 use Rattle.replica.proofs.unanimity.all_reads.Statement.{statement}
 use Rattle.replica.proofs.unanimity.all_reads.Tie as tie
 

@@ -3,10 +3,10 @@ use Prim.Native.Nat.{_≤_, _-_}
 use mathlib.Core.Path.{_≡_, refl}
 use native.Mathlib.Omega.{arith}
 use lib.ListN.{drop}
+use borrow.Author.Needs.{needs}
 use Rattle.replica.specs.State.{waiting, free}
 use Rattle.replica.specs.Head.{batchAt}
 use Rattle.replica.proofs.Left.{left-next, left-none}
-use borrow.Author.Needs.{needs}
 use Rattle.replica.proofs.unanimity.first_of.Statement.{statement}
 use Rattle.replica.proofs.unanimity.first_of.Tie as tie
 

@@ -5,11 +5,11 @@ use mathlib.Core.Bool.{false, _&&_, and-true}
 use native.Mathlib.Nat.{add-zero}
 use native.Mathlib.Omega.{arith}
 use lib.ListN.{length, getD, drop, replicate, length-set}
+use borrow.Author.Needs.{needs}
 use Rattle.replica.specs.State.{waiting, free}
 use Rattle.replica.specs.Head.{batchAt}
 use Rattle.replica.proofs.Left.{left-next, left-none}
 use Rattle.replica.proofs.Agree.{agree, size-step, agree-step, agree-unanimous}
-use borrow.Author.Needs.{needs}
 use Rattle.replica.proofs.unanimity.is_unanimous.Statement.{statement}
 use Rattle.replica.proofs.unanimity.is_unanimous.Tie as tie
 

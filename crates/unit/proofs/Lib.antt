@@ -1,0 +1,4 @@
+pub mod Bytes
+pub mod Places
+pub mod Lines
+pub mod Whole

@@ -1,0 +1,4 @@
+pub mod Numbers
+pub mod Heard
+pub mod Answers
+pub mod Tallied

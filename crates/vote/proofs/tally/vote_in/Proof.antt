@@ -1,0 +1,20 @@
+use mathlib.Core.Path.{_∙_}
+use lib.ListN.{take}
+use Rattle.vote.proofs.Answers.{ballot-vote}
+use borrow.Author.Needs.{needs}
+use Rattle.vote.proofs.tally.vote_in.Statement.{statement}
+use Rattle.vote.proofs.tally.vote_in.Tie as tie
+
+tally-in-requires : tie.Need-tally-in-requires
+tally-in-requires c κs = search needs
+
+answer-vote-requires : tie.Need-answer-vote-requires
+answer-vote-requires c κs = search needs
+
+returns : tie.Need-returns
+returns c =
+    let a = c .before .before .args in
+    c .answer-vote .ensures ∙ rw (c .before .tally-in .ensures) (ballot-vote (a .k) (a .n) (a .q) (take (a .count) (a .list)))
+
+pub vote-in-spec : {M : Type 1} → statement M
+vote-in-spec = tie.close (tie.spec tally-in-requires answer-vote-requires returns)
