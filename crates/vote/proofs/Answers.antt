@@ -2,22 +2,22 @@
 use Prim.Native.Nat.{ℕ, zero, suc, _+_, _-_, _*_, _≤_, _<_}
 use mathlib.Core.Path.{_≡_, refl, sym, _∙_, ap}
 use mathlib.Core.Logic.{_⊎_, inl, inr, ⊎-elim}
-use mathlib.Core.Bool.{Bool, true, false, cond, _&&_, and-false}
+use mathlib.Core.Bool.{Bool, true, false, _&&_, and-false}
 use mathlib.Core.List.{List, [], _∷_}
 use native.Mathlib.Omega.{arith}
 use lib.Dec.{eqb, leb}
 use lib.ListN.{length, getD}
-use borrow.Author.Tests.{eqb-true, eqb-false, eq-eqb, leb-true}
-use Rattle.question.specs.Question.{_else_, Answer, given, refused, Worked, worked, ask, allYes, next, within, unitQuestions}
+use borrow.Author.Tests.{eqb-true, eqb-false, leb-true}
+use Rattle.question.specs.Question.{_else_, Answer, given, refused, Worked, worked, ask, next, within, unitQuestions}
 use Rattle.question.proofs.Questions.{ask-next, both, within-true}
-use Rattle.record.specs.Record.{messageQuestions, messageFields}
+use Rattle.record.specs.Record.{messageQuestions}
 use Rattle.record.specs.declared.message.Message.{Message}
 use Rattle.rules.specs.Lists.{some, tally}
 use Rattle.rules.specs.Vote.{passes, counts, halts, says, support, elect, askList, vote, haltCount}
 use Rattle.rules.specs.declared.Query.{Query}
 use Rattle.laws.proofs.Ballot.{says-in, elect-wins, elect-refused}
 use Rattle.laws.proofs.Lists.{case, true-not-false, some-in, tally-hit}
-use Rattle.vote.specs.Ballot.{haltQuery, ballotOf, gave, supportIn, electIn, haltCountIn, askBallot}
+use Rattle.vote.specs.Ballot.{ballotOf, gave, supportIn, electIn, haltCountIn, askBallot}
 use Rattle.vote.specs.declared.ballot.Ballot.{Ballot}
 use Rattle.vote.proofs.Heard.{ballot-short, ballot-gave, ballot-halted}
 use Rattle.vote.proofs.Numbers.{tally-past, tally-same}

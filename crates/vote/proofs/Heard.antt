@@ -1,5 +1,5 @@
 -- The ballot of a list: of each replica it holds the first reply that counts, and whether a halt that counts came.
-use Prim.Native.Nat.{ℕ, _+_, _*_, _≤_, _<_}
+use Prim.Native.Nat.{ℕ, _+_, _≤_, _<_}
 use mathlib.Core.Path.{_≡_, refl, sym, _∙_}
 use mathlib.Core.Bool.{Bool, true, false, cond, _&&_, _||_, and-false, or-true, or-false, or-assoc}
 use mathlib.Core.List.{List, [], _∷_}
@@ -7,7 +7,7 @@ use native.Mathlib.Nat.{le-antisymm}
 use native.Mathlib.Numerals.{add-one}
 use native.Mathlib.Omega.{arith}
 use lib.Dec.{eqb, leb}
-use lib.ListN.{length, getD, set, replicate, drop, length-set, getD-replicate}
+use lib.ListN.{length, getD, drop, length-set, getD-replicate}
 use lib.Seq.{getD-set-same, getD-set-other, drop-cons, drop-length}
 use borrow.Author.Tests.{leb-true, leb-false, eqb-true, eqb-false, eq-eqb, ne-eqb}
 use Rattle.record.specs.declared.message.Message.{Message}

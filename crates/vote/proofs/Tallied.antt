@@ -21,7 +21,7 @@ use denote.Slice.{sliceVal, ShrSlice}
 use denote.Steps.{owned, nothing}
 use denote.Struct.Laws as LL
 use denote.Triple.Statement.{Contract}
-use denote.Triple.Entry.{Args, Vals}
+use denote.Triple.Entry.{Args}
 use denote.Triple.Spec.{tripleOf}
 use denote.Triple.Clauses.{ensured, lasts}
 use Rattle.record.proofs.message.Message as T

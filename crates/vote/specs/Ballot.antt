@@ -1,5 +1,5 @@
--- The ballot: what is noted of each replica, message after message, and what it says. That it says what the rules of
--- crates/rules say of the list is proved in proofs/.
+-- The ballot: what is noted of each replica, message after message, and what it says. That this is what crates/rules
+-- says of the list is proved in proofs/Answers.antt.
 use Prim.Native.Nat.{ℕ, zero, suc, _+_}
 use mathlib.Core.Bool.{Bool, true, false, cond, _&&_, _||_}
 use mathlib.Core.List.{List, [], _∷_}
@@ -12,9 +12,26 @@ use Rattle.rules.specs.Vote.{counts, halts}
 use Rattle.rules.specs.declared.Query.{Query}
 use Rattle.vote.specs.declared.ballot.Ballot.{Ballot}
 
+-- ── by their fields ──
+
+abbrev pub messageOf : ℕ → ℕ → ℕ → ℕ → ℕ → ℕ → ℕ → Message
+messageOf kind group process replica variable timestamp value = record {
+  kind = kind;
+  group = group;
+  process = process;
+  replica = replica;
+  variable = variable;
+  timestamp = record { 0 = timestamp };
+  value = value;
+}
+
+-- what a halt count is on: no halt is compared with a variable or a timestamp
+abbrev pub haltQuery : ℕ → ℕ → Query
+haltQuery group process = record { group = group; process = process; variable = 0; timestamp = record { 0 = 0 } }
+
 -- ── message after message ──
 
--- of a list of a length, with nothing heard
+-- the ballot of a list of the given length, with nothing heard
 unfoldable pub newBallot : ℕ → Ballot
 newBallot length = record { short = leb length 64; heard = replicate 8 false; values = replicate 8 0; halted = replicate 8 false }
 
@@ -35,6 +52,7 @@ hear k n q b m =
     cond (counts k n q m) (hearReply b (m .replica) (m .value))
     (cond (halts k n (q .group) (q .process) m) (hearHalt b (m .replica)) b)
 
+-- the messages of a list, in their order
 unfoldable pub hearAll : ℕ → ℕ → Query → Ballot → List Message → Ballot
 hearAll k n q b [] = b
 hearAll k n q b (m ∷ list) = hearAll k n q (hear k n q b m) list
@@ -45,7 +63,7 @@ ballotOf k n q list = hearAll k n q (newBallot (length list)) list
 
 -- ── what a ballot says ──
 
--- a replica was heard to give the value
+-- whether a replica was heard to give the value
 abbrev pub gave : Ballot → ℕ → ℕ → Bool
 gave b value replica = getD (b .heard) replica false && eqb (getD (b .values) replica 0) value
 
@@ -67,20 +85,3 @@ haltCountIn b = tally (λ replica. getD (b .halted) replica false) 7
 -- questions 1, 2 and 16
 abbrev pub askBallot : {A : Type 0} → ℕ → ℕ → Ballot → Answer A → Answer A
 askBallot k n b rest = ask (unitQuestions k n) (ask ((b .short else 16) ∷ []) rest)
-
--- ── by their fields ──
-
--- what a halt count is on: no halt is compared with a variable or a timestamp
-abbrev pub haltQuery : ℕ → ℕ → Query
-haltQuery group process = record { group = group; process = process; variable = 0; timestamp = record { 0 = 0 } }
-
-abbrev pub messageOf : ℕ → ℕ → ℕ → ℕ → ℕ → ℕ → ℕ → Message
-messageOf kind group process replica variable timestamp value = record {
-  kind = kind;
-  group = group;
-  process = process;
-  replica = replica;
-  variable = variable;
-  timestamp = record { 0 = timestamp };
-  value = value;
-}

@@ -39,8 +39,7 @@ fn support(b: Ballot, value: u32) -> usize
     count
 }
 
-// The value that at least k + 1 replicas gave. No two values have so many, so it is sought from
-// the last replica down.
+// The value that at least k + 1 replicas gave. No two values have so many: any order finds it.
 fn elect(k: u8, b: Ballot) -> VoteAnswer
     ensures { λ r. ⌜ voteAnswer r ≡ electIn k b 7 ⌝ }
 {

@@ -1,3 +1,4 @@
+-- The loop's invariant: the election among the first i replicas is that among all, for none past i wins.
 use Rattle.vote.specs.Ballot.{electIn}
 use mathlib.Core.Path.{sym, _∙_}
 use native.Mathlib.Omega.{arith}

@@ -1,3 +1,4 @@
+-- The loop's invariant: the count is the tally of the first i replicas.
 use mathlib.Core.Bool.{false}
 use lib.ListN.{getD}
 use Rattle.rules.specs.Lists.{tally}

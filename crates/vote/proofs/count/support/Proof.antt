@@ -1,3 +1,4 @@
+-- The loop's invariant: the count is the tally of the first i replicas.
 use Rattle.rules.specs.Lists.{tally}
 use Rattle.vote.specs.Ballot.{gave, supportIn}
 use Prim.Native.Nat.{_≤_, _-_}

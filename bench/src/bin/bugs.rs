@@ -1,0 +1,113 @@
+//! Shows that the harness can fail: each bug of the fake must be found.
+//!
+//! Runs `differential` and `unit`, built with the feature `fake` and standing
+//! beside this program, once without a bug and once with each of them.
+
+use std::io;
+use std::path::{Path, PathBuf};
+use std::process::{Command, ExitCode};
+
+use bench::fake::bugs::BUGS;
+use bench::fake::journal;
+
+const RUNS: &str = "20000";
+const UNITS: &str = "4000";
+
+/// The programs that stand beside this one.
+struct Programs {
+    differential: PathBuf,
+    unit: PathBuf,
+    journal: PathBuf,
+}
+
+/// What a program said: whether it went through, and about what it found.
+struct Verdict {
+    passed: bool,
+    difference: Option<String>,
+}
+
+fn main() -> io::Result<ExitCode> {
+    let here = std::env::current_exe()?;
+    let beside = |name| here.with_file_name(name);
+    let programs = Programs {
+        differential: beside("differential"),
+        unit: beside("unit"),
+        journal: beside("model_journal"),
+    };
+    let unnoticed =
+        without_bug(&programs)? + bugs_of_calls(&programs)? + bugs_of_journals(&programs)?;
+    println!("{} bugs, {unnoticed} wrong verdicts", BUGS.len() + journal::BUGS.len());
+    Ok(if unnoticed == 0 { ExitCode::SUCCESS } else { ExitCode::FAILURE })
+}
+
+/// Without a bug both programs must pass.
+fn without_bug(programs: &Programs) -> io::Result<usize> {
+    let journal = programs.journal.as_os_str();
+    let verdicts = [
+        run(Command::new(&programs.differential).arg(RUNS).env("JOURNAL", journal))?,
+        run(Command::new(&programs.unit).arg(UNITS))?,
+    ];
+    for verdict in &verdicts {
+        println!("no bug: {}", if verdict.passed { "passed" } else { "NOT PASSED" });
+    }
+    Ok(verdicts.iter().filter(|verdict| !verdict.passed).count())
+}
+
+/// The differential must find each bug, the unit those that show in it.
+fn bugs_of_calls(programs: &Programs) -> io::Result<usize> {
+    let mut unnoticed = 0;
+    for (place, (_, what, shows_in_unit)) in BUGS.iter().enumerate() {
+        let number = (place + 1).to_string();
+        println!("bug {number}: {what}");
+        let with_bug = |program: &Path, amount| {
+            run(Command::new(program).arg(amount).env("FAKE_BUG", &number))
+        };
+        unnoticed += report("differential", true, with_bug(&programs.differential, RUNS)?);
+        unnoticed += report("unit", *shows_in_unit, with_bug(&programs.unit, UNITS)?);
+    }
+    Ok(unnoticed)
+}
+
+/// The differential must find each bug of the journal program.
+fn bugs_of_journals(programs: &Programs) -> io::Result<usize> {
+    let mut unnoticed = 0;
+    for (place, what) in journal::BUGS.iter().enumerate() {
+        let number = (place + 1).to_string();
+        println!("journal bug {number}: {what}");
+        let verdict = run(Command::new(&programs.differential)
+            .arg(RUNS)
+            .env("JOURNAL", &programs.journal)
+            .env("JOURNAL_BUG", &number))?;
+        unnoticed += report("differential", true, verdict);
+    }
+    Ok(unnoticed)
+}
+
+/// Prints a verdict; 1 if it must find the bug and did not.
+fn report(program: &str, must_find: bool, verdict: Verdict) -> usize {
+    match verdict.difference {
+        Some(line) => {
+            println!("  {program}: {}", shortened(&line));
+            0
+        }
+        None if must_find => {
+            println!("  {program}: NOT FOUND");
+            1
+        }
+        None => {
+            println!("  {program}: does not show there");
+            0
+        }
+    }
+}
+
+fn shortened(line: &str) -> String {
+    line.chars().take(110).collect()
+}
+
+fn run(command: &mut Command) -> io::Result<Verdict> {
+    let output = command.output()?;
+    let text = String::from_utf8_lossy(&output.stdout);
+    let difference = text.lines().find(|line| line.starts_with("DIFFERENCE"));
+    Ok(Verdict { passed: output.status.success(), difference: difference.map(str::to_string) })
+}

@@ -1,0 +1,402 @@
+//! Benchmarks: the verified implementation against the model, same inputs,
+//! best of several runs.
+
+use std::fs::File;
+use std::hint::black_box;
+use std::io::{self, BufWriter, Write};
+use std::path::Path;
+use std::process::{Command, Stdio};
+use std::time::Instant;
+
+use bench::convert::{to_list, to_replica};
+use bench::differential::journals;
+use bench::ffi;
+use bench::model::journal::{delivery_entry, play, setup_entry, step_entry};
+use bench::model::record::{self, Content, Message, MessageFields, Operation, Request};
+use bench::model::replica::Replica;
+use bench::model::vote::{count_halts, vote, Query};
+use bench::model::{by_value, LocalTime, Timestamp, LIST_LIMIT, OUTPUT_SIZE, PENDING_LIMIT};
+use bench::random::Random;
+use bench::traffic::{Cast, Traffic};
+
+/// The best of so many runs counts.
+const BEST_OF: usize = 9;
+/// Calls in one run.
+const CALLS: usize = 20_000;
+/// Copies of a prepared replica, each stepped once in a run.
+const COPIES: usize = 500;
+/// Records in the benchmark of the journal.
+const JOURNAL_RECORDS: usize = 2_000_000;
+
+const K: u8 = 1;
+const GROUPS: u8 = 2;
+const OWNER: u8 = 1;
+const DELTA: u64 = 5;
+
+fn main() -> io::Result<()> {
+    println!("timing, {}: best of {BEST_OF}, in ns for one call", bench::other_side());
+    println!("{:<38} {:>9} {:>9} {:>7}", "", "verified", "model", "ratio");
+    records();
+    delivery();
+    steps();
+    votes();
+    journal()
+}
+
+fn print_row(what: &str, verified: f64, model: f64) {
+    println!("{what:<38} {verified:>9.1} {model:>9.1} {:>7.2}", verified / model);
+}
+
+/// The best time of one call in ns, where `work` makes `calls` of them.
+fn best(calls: usize, mut work: impl FnMut()) -> f64 {
+    best_prepared(calls, || (), |()| work())
+}
+
+/// The same with a preparation that is not timed.
+fn best_prepared<T>(calls: usize, prepare: impl Fn() -> T, mut work: impl FnMut(T)) -> f64 {
+    let mut least = f64::INFINITY;
+    for _ in 0..BEST_OF {
+        let prepared = prepare();
+        let start = Instant::now();
+        work(prepared);
+        least = least.min(start.elapsed().as_nanos() as f64);
+    }
+    least / calls as f64
+}
+
+fn request(process: u8, stamp: u64, operation: Operation) -> Request {
+    Request { group: OWNER, process, variable: 4, timestamp: Timestamp(stamp), operation }
+}
+
+fn reply(replica: u8, value: u32) -> Message {
+    let content = Content::Reply { variable: 4, value };
+    Message { group: OWNER, process: 1, replica, timestamp: Timestamp(10), content }
+}
+
+fn records() {
+    let requests: Vec<Request> =
+        (0..64).map(|i| request(1 + (i & 1) as u8, i, Operation::Write(i as u32))).collect();
+    let messages: Vec<Message> = (0..64).map(|i| reply(1 + (i % 3) as u8, i)).collect();
+    read_requests(&requests);
+    read_messages(&messages);
+    write_requests(&requests);
+    write_messages(&messages);
+}
+
+/// Lets nobody leave a result out.
+fn see<T>(result: &T) {
+    black_box(result);
+}
+
+/// Calls `work` with each of the items in turn, `CALLS` times.
+fn in_turn<T>(items: &[T], mut work: impl FnMut(&T)) {
+    for item in items.iter().cycle().take(CALLS) {
+        work(black_box(item));
+    }
+}
+
+fn read_requests(requests: &[Request]) {
+    let bytes: Vec<[u8; 24]> = requests.iter().map(Request::encode).collect();
+    let verified = best(CALLS, || {
+        in_turn(&bytes, |b| see(&ffi::read_request(K, GROUPS, b)));
+    });
+    let model = best(CALLS, || {
+        in_turn(&bytes, |b| see(&record::read_request(K, GROUPS, b)));
+    });
+    print_row("read a request", verified, model);
+}
+
+fn read_messages(messages: &[Message]) {
+    let bytes: Vec<[u8; 24]> = messages.iter().map(Message::encode).collect();
+    let verified = best(CALLS, || {
+        in_turn(&bytes, |b| see(&ffi::read_message(K, GROUPS, b)));
+    });
+    let model = best(CALLS, || {
+        in_turn(&bytes, |b| see(&record::read_message(K, GROUPS, b)));
+    });
+    print_row("read a message", verified, model);
+}
+
+fn write_requests(requests: &[Request]) {
+    let mut place = [0; 24];
+    let fields: Vec<_> = requests.iter().map(Request::fields).collect();
+    let structs: Vec<ffi::Request> = fields.iter().map(|f| (*f).into()).collect();
+    let verified = best(CALLS, || {
+        in_turn(&structs, |r| {
+            see(&ffi::write_request(K, GROUPS, *r, black_box(&mut place)));
+        });
+    });
+    let model = best(CALLS, || {
+        in_turn(&fields, |f| {
+            see(&record::write_request(K, GROUPS, f, black_box(&mut place)));
+        });
+    });
+    print_row("write a request", verified, model);
+}
+
+fn write_messages(messages: &[Message]) {
+    let mut place = [0; 24];
+    let fields: Vec<_> = messages.iter().map(Message::fields).collect();
+    let structs: Vec<ffi::Message> = fields.iter().map(|f| (*f).into()).collect();
+    let verified = best(CALLS, || {
+        in_turn(&structs, |m| {
+            see(&ffi::write_message(K, GROUPS, *m, black_box(&mut place)));
+        });
+    });
+    let model = best(CALLS, || {
+        in_turn(&fields, |f| {
+            see(&record::write_message(K, GROUPS, f, black_box(&mut place)));
+        });
+    });
+    print_row("write a message", verified, model);
+}
+
+fn new_model() -> Replica {
+    Replica::make(K, GROUPS, OWNER, DELTA, 1).expect("allowed settings")
+}
+
+fn new_by_value() -> by_value::Replica {
+    by_value::Replica::make(K, GROUPS, OWNER, DELTA, 1).expect("allowed settings")
+}
+
+/// Fills a new replica, again and again.
+fn delivery() {
+    let bytes: Vec<[u8; 24]> =
+        (0..PENDING_LIMIT as u64).map(|i| request(1, i, Operation::Read).encode()).collect();
+    let rounds = CALLS / PENDING_LIMIT;
+    let calls = rounds * PENDING_LIMIT;
+    let verified = best(calls, || (0..rounds).for_each(|_| fill_verified(&bytes)));
+    let by_reference = best(calls, || (0..rounds).for_each(|_| fill_model(&bytes)));
+    let by_value = best(calls, || (0..rounds).for_each(|_| fill_by_value(&bytes)));
+    print_row("deliver (model: &mut)", verified, by_reference);
+    print_row("deliver (model: by value)", verified, by_value);
+}
+
+fn fill_verified(bytes: &[[u8; 24]]) {
+    let mut replica = ffi::make(K, GROUPS, OWNER, DELTA, 1).replica;
+    for request in bytes {
+        let found = ffi::deliver(replica, black_box(request), ffi::LocalTime(100));
+        replica = found.replica;
+        see(&found.refusal);
+    }
+    see(&replica);
+}
+
+fn fill_model(bytes: &[[u8; 24]]) {
+    let mut replica = new_model();
+    for request in bytes {
+        see(&replica.deliver(black_box(request), LocalTime(100)));
+    }
+    see(&replica);
+}
+
+fn fill_by_value(bytes: &[[u8; 24]]) {
+    let mut replica = new_by_value();
+    for request in bytes {
+        let (next, result) = replica.deliver(black_box(request), LocalTime(100));
+        replica = next;
+        see(&result);
+    }
+    see(&replica);
+}
+
+fn steps() {
+    let unstable: Vec<Request> = (0..16).map(|i| request(1, i, Operation::Read)).collect();
+    let one_batch: Vec<Request> = (0..16).map(|_| request(1, 10, Operation::Read)).collect();
+    let many: Vec<Request> = (0..64).map(|i| request(1, i, Operation::Read)).collect();
+    step("step, nothing pending", &[], 106);
+    step("step, 16 pending, none stable", &unstable, 105);
+    step("step, one batch of 16 reads", &one_batch, 106);
+    step("step, 64 batches of one read", &many, 106);
+}
+
+/// A step of replicas that got the requests at 100.
+fn step(what: &str, requests: &[Request], at: u64) {
+    let mut model = new_model();
+    let mut fixed = new_by_value();
+    for request in requests {
+        model.deliver(&request.encode(), LocalTime(100)).expect("an allowed delivery");
+        fixed = fixed.deliver(&request.encode(), LocalTime(100)).0;
+    }
+    let verified = step_verified(to_replica(&model), at);
+    let by_reference = step_model(&model, at);
+    let by_value = step_by_value(fixed, at);
+    print_row(&format!("{what} (&mut)"), verified, by_reference);
+    print_row(&format!("{what} (value)"), verified, by_value);
+}
+
+fn step_verified(replica: ffi::Replica, at: u64) -> f64 {
+    let mut output = [0; OUTPUT_SIZE];
+    let copies = || vec![replica; COPIES];
+    best_prepared(COPIES, copies, |mut copies| {
+        for copy in &mut copies {
+            let found = ffi::step(*copy, ffi::LocalTime(black_box(at)), &mut output);
+            *copy = found.replica;
+            see(&found.count);
+        }
+        see(&output);
+    })
+}
+
+fn step_model(replica: &Replica, at: u64) -> f64 {
+    let mut output = [0; OUTPUT_SIZE];
+    let copies = || vec![replica.clone(); COPIES];
+    best_prepared(COPIES, copies, |mut copies| {
+        for copy in &mut copies {
+            see(&copy.step(LocalTime(black_box(at)), &mut output));
+        }
+        see(&output);
+    })
+}
+
+fn step_by_value(replica: by_value::Replica, at: u64) -> f64 {
+    let mut output = [0; OUTPUT_SIZE];
+    let copies = || vec![replica; COPIES];
+    best_prepared(COPIES, copies, |mut copies| {
+        for copy in &mut copies {
+            let (next, result) = copy.step(LocalTime(black_box(at)), &mut output);
+            *copy = next;
+            see(&result);
+        }
+        see(&output);
+    })
+}
+
+/// A vote and a halt count over 64 messages.
+fn votes() {
+    let query = Query { group: OWNER, process: 1, variable: 4, timestamp: Timestamp(10) };
+    let messages: Vec<MessageFields> =
+        (0..LIST_LIMIT).map(|i| reply(1 + (i % 3) as u8, 7).fields()).collect();
+    let list = to_list(&messages, MessageFields::default());
+    let calls = CALLS / 10;
+    let verified = best(calls, || {
+        for _ in 0..calls {
+            see(&ffi::vote(K, GROUPS, query.into(), *black_box(&list)));
+        }
+    });
+    let model = best(calls, || {
+        for _ in 0..calls {
+            see(&vote(K, GROUPS, &query, black_box(&messages)));
+        }
+    });
+    print_row("vote over 64 messages", verified, model);
+    halts(&messages);
+}
+
+fn halts(replies: &[MessageFields]) {
+    let halt = |m: &MessageFields| MessageFields { kind: 4, variable: 0, value: 0, ..*m };
+    let messages: Vec<MessageFields> = replies.iter().map(halt).collect();
+    let list = to_list(&messages, MessageFields::default());
+    let calls = CALLS / 10;
+    let verified = best(calls, || {
+        for _ in 0..calls {
+            see(&ffi::count_halts(K, GROUPS, OWNER, 1, *black_box(&list)));
+        }
+    });
+    let model = best(calls, || {
+        for _ in 0..calls {
+            see(&count_halts(K, GROUPS, OWNER, 1, black_box(&messages)));
+        }
+    });
+    print_row("halt count over 64 messages", verified, model);
+}
+
+/// A long ordinary journal through the program and through the model.
+fn journal() -> io::Result<()> {
+    if !journals::wanted() {
+        println!("the journal is skipped");
+        return Ok(());
+    }
+    let path = std::env::temp_dir().join(format!("journal-{}.bin", std::process::id()));
+    let result = write_journal(&path)
+        .and_then(|()| compare_texts(&path))
+        .and_then(|()| compare_journals(&path));
+    std::fs::remove_file(&path)?;
+    result
+}
+
+/// Both must print the same; how the replicas end tells what the journal is.
+fn compare_texts(path: &Path) -> io::Result<()> {
+    let output = Command::new(journals::program()).stdin(File::open(path)?).output()?;
+    let mut text = Vec::new();
+    play(File::open(path)?, &mut text)?;
+    if output.stdout != text {
+        return Err(io::Error::other("the journal program and the model print different texts"));
+    }
+    let text = String::from_utf8_lossy(&text);
+    let replicas: Vec<&str> = text.lines().filter(|line| line.starts_with("card")).collect();
+    let refused = text.lines().filter(|line| line.starts_with("no")).count();
+    println!(
+        "journal of {JOURNAL_RECORDS} records: {} replies, {refused} refused, at the end {}",
+        text.lines().filter(|line| line.starts_with("reply")).count(),
+        replicas.join(", ")
+    );
+    Ok(())
+}
+
+/// Each request goes to all replicas, one after the other, and every 32nd
+/// record is a step of one of them. The place is the local time.
+fn write_journal(path: &Path) -> io::Result<()> {
+    let mut random = Random::new(1);
+    let mut traffic = Traffic::calm(Cast { k: K, groups: GROUPS, owner: OWNER }, 1);
+    let mut deliveries = std::iter::from_fn(|| Some(traffic.next(&mut random).encode()))
+        .flat_map(|request| (1..=2 * K + 1).map(move |replica| (replica, request)));
+    let mut file = BufWriter::new(File::create(path)?);
+    file.write_all(&setup_entry(K, GROUPS, OWNER, DELTA))?;
+    for place in 1..JOURNAL_RECORDS as u64 {
+        let delivery = if place % 32 == 0 { None } else { deliveries.next() };
+        let record = match delivery {
+            Some((replica, request)) => delivery_entry(replica, place, &request),
+            None => step_entry(1 + (place / 32 % 3) as u8, place),
+        };
+        file.write_all(&record)?;
+    }
+    file.flush()
+}
+
+fn compare_journals(path: &Path) -> io::Result<()> {
+    let verified = best_of_3(|| play_outside(path))?;
+    let model = best_of_3(|| play_model(path))?;
+    println!("{:<38} {:>9} {:>9} {:>7}", "", "verified", "model", "ratio");
+    let rate = |seconds: f64| JOURNAL_RECORDS as f64 / seconds / 1e6;
+    println!(
+        "{:<38} {:>9.3} {:>9.3} {:>7.2}",
+        "journal, million records a second",
+        rate(verified),
+        rate(model),
+        rate(verified) / rate(model)
+    );
+    print_row(
+        "journal, ns for one record",
+        verified / JOURNAL_RECORDS as f64 * 1e9,
+        model / JOURNAL_RECORDS as f64 * 1e9,
+    );
+    Ok(())
+}
+
+/// The least time in seconds.
+fn best_of_3(work: impl Fn() -> io::Result<()>) -> io::Result<f64> {
+    let mut least = f64::INFINITY;
+    for _ in 0..3 {
+        let start = Instant::now();
+        work()?;
+        least = least.min(start.elapsed().as_secs_f64());
+    }
+    Ok(least)
+}
+
+fn play_outside(path: &Path) -> io::Result<()> {
+    let mut command = Command::new(journals::program());
+    let status = command.stdin(File::open(path)?).stdout(Stdio::null()).status()?;
+    if status.code().is_some() {
+        Ok(())
+    } else {
+        Err(io::Error::other("the journal program was ended from outside"))
+    }
+}
+
+fn play_model(path: &Path) -> io::Result<()> {
+    let mut text = BufWriter::new(File::create("/dev/null")?);
+    play(File::open(path)?, &mut text)?;
+    text.flush()
+}

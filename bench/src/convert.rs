@@ -1,0 +1,140 @@
+//! Between the structs of the C interface and those of the model.
+
+use crate::ffi;
+use crate::model::record::{MessageFields, RequestFields};
+use crate::model::replica::{Pending, Replica};
+use crate::model::vote::Query;
+use crate::model::{by_value, LocalTime, Settings, Timestamp, LIST_LIMIT, PENDING_LIMIT};
+
+/// The by-value replica is compared with the C one, so it is as large.
+const _: () = assert!(size_of::<by_value::Replica>() == size_of::<ffi::Replica>());
+
+impl From<RequestFields> for ffi::Request {
+    fn from(fields: RequestFields) -> Self {
+        ffi::Request {
+            kind: fields.kind,
+            group: fields.group,
+            process: fields.process,
+            variable: fields.variable,
+            timestamp: ffi::Timestamp(fields.timestamp.0),
+            value: fields.value,
+        }
+    }
+}
+
+impl From<ffi::Request> for RequestFields {
+    fn from(request: ffi::Request) -> Self {
+        RequestFields {
+            kind: request.kind,
+            group: request.group,
+            process: request.process,
+            variable: request.variable,
+            timestamp: Timestamp(request.timestamp.0),
+            value: request.value,
+        }
+    }
+}
+
+impl From<MessageFields> for ffi::Message {
+    fn from(fields: MessageFields) -> Self {
+        ffi::Message {
+            kind: fields.kind,
+            group: fields.group,
+            process: fields.process,
+            replica: fields.replica,
+            variable: fields.variable,
+            timestamp: ffi::Timestamp(fields.timestamp.0),
+            value: fields.value,
+        }
+    }
+}
+
+impl From<ffi::Message> for MessageFields {
+    fn from(message: ffi::Message) -> Self {
+        MessageFields {
+            kind: message.kind,
+            group: message.group,
+            process: message.process,
+            replica: message.replica,
+            variable: message.variable,
+            timestamp: Timestamp(message.timestamp.0),
+            value: message.value,
+        }
+    }
+}
+
+impl From<Query> for ffi::Query {
+    fn from(query: Query) -> Self {
+        ffi::Query {
+            group: query.group,
+            process: query.process,
+            variable: query.variable,
+            timestamp: ffi::Timestamp(query.timestamp.0),
+        }
+    }
+}
+
+impl From<ffi::Query> for Query {
+    fn from(query: ffi::Query) -> Self {
+        Query {
+            group: query.group,
+            process: query.process,
+            variable: query.variable,
+            timestamp: Timestamp(query.timestamp.0),
+        }
+    }
+}
+
+impl From<&Pending> for ffi::Pending {
+    fn from(pending: &Pending) -> Self {
+        ffi::Pending {
+            request: pending.request.fields().into(),
+            arrival: ffi::LocalTime(pending.arrival.0),
+        }
+    }
+}
+
+/// A list of at most 65 messages; the places behind it hold `rest`.
+pub fn to_list(messages: &[MessageFields], rest: MessageFields) -> ffi::List {
+    let mut list = ffi::List { messages: [rest.into(); LIST_LIMIT + 1], count: messages.len() };
+    for (place, message) in list.messages.iter_mut().zip(messages) {
+        *place = (*message).into();
+    }
+    list
+}
+
+/// The C struct of a replica; the free places hold zeros.
+pub fn to_replica(model: &Replica) -> ffi::Replica {
+    let mut pending = [ffi::Pending::default(); PENDING_LIMIT];
+    for (place, waiting) in pending.iter_mut().zip(&model.pending) {
+        *place = waiting.into();
+    }
+    ffi::Replica {
+        k: model.settings.k(),
+        groups: model.settings.groups(),
+        owner: model.owner,
+        number: model.number,
+        delta: model.delta,
+        last: ffi::LocalTime(model.last.0),
+        variables: model.variables,
+        pending,
+        count: model.pending.len(),
+        writes: model.writes,
+    }
+}
+
+/// The model's replica, if the struct is one that the calls can leave.
+pub fn from_replica(replica: &ffi::Replica) -> Option<Replica> {
+    let settings = Settings::new(replica.k, replica.groups).ok()?;
+    let mut model =
+        Replica::make(replica.k, replica.groups, replica.owner, replica.delta, replica.number)
+            .ok()?;
+    for waiting in replica.pending.get(..replica.count)? {
+        let request = settings.check_request(&waiting.request.into()).ok()?;
+        model.pending.push(Pending { request, arrival: LocalTime(waiting.arrival.0) });
+    }
+    model.last = LocalTime(replica.last.0);
+    model.variables = replica.variables;
+    model.writes = replica.writes;
+    model.pending.iter().all(|waiting| waiting.arrival <= model.last).then_some(model)
+}

@@ -1,0 +1,293 @@
+//! A replica of the model and one of the other side that get the same calls.
+
+use std::collections::BTreeSet;
+use std::fmt::{self, Display, Formatter};
+
+use super::lent::Lent;
+use super::records::{note_free_part, some_request};
+use super::tally::{Call, Event, Tally};
+use super::{same, Outcome};
+use crate::ffi;
+use crate::model::record::{Request, REPLY};
+use crate::model::replica::{Pending, Replica};
+use crate::model::{number_of, LocalTime, OUTPUT_SIZE, PENDING_LIMIT, RECORD_SIZE, STEP_MESSAGES};
+use crate::model::{Refusal, Timestamp, TIME_LIMIT, VARIABLES};
+use crate::random::Random;
+
+/// The arguments of making a replica.
+#[derive(Clone, Copy, Debug)]
+pub struct Making {
+    pub k: u8,
+    pub groups: u8,
+    pub owner: u8,
+    pub delta: u64,
+    pub number: u8,
+}
+
+/// The replica that comes along with a refusal to make one.
+const AFTER_REFUSAL: Making = Making { k: 0, groups: 1, owner: 1, delta: 0, number: 1 };
+
+impl Making {
+    fn model(self) -> Result<Replica, Refusal> {
+        Replica::make(self.k, self.groups, self.owner, self.delta, self.number)
+    }
+
+    fn other(self) -> ffi::ReplicaResult {
+        ffi::make(self.k, self.groups, self.owner, self.delta, self.number)
+    }
+}
+
+/// One call of a run, kept to be printed.
+enum Action {
+    Deliver { bytes: Vec<u8>, at: u64 },
+    Step { at: u64, room: usize },
+}
+
+impl Display for Action {
+    fn fmt(&self, f: &mut Formatter) -> fmt::Result {
+        match self {
+            Action::Deliver { bytes, at } => write!(f, "deliver {bytes:?} at {at}"),
+            Action::Step { at, room } => write!(f, "step at {at} with {room} bytes of output"),
+        }
+    }
+}
+
+/// Both replicas, and the calls that brought them here.
+pub struct Pair {
+    pub model: Replica,
+    other: ffi::Replica,
+    making: Making,
+    actions: Vec<Action>,
+    past: Past,
+}
+
+/// Makes both replicas, or none where both sides refuse.
+pub fn make(making: Making, tally: &mut Tally) -> Result<Option<Pair>, super::Difference> {
+    let input = || format!("make {making:?}");
+    let expected = making.model();
+    let found = making.other();
+    tally.answer(Call::Make, number_of(&expected));
+    same("refusal", number_of(&expected), found.refusal, input)?;
+    let (model, accepted) = match expected {
+        Ok(model) => (model, true),
+        Err(_) => (AFTER_REFUSAL.model().expect("allowed settings"), false),
+    };
+    same_replica(&model, &found.replica, &input)?;
+    if !accepted {
+        return Ok(None);
+    }
+    note_making(making, tally);
+    let (actions, past) = (Vec::new(), Past::default());
+    Ok(Some(Pair { model, other: found.replica, making, actions, past }))
+}
+
+fn note_making(making: Making, tally: &mut Tally) {
+    let of_k = [Event::K0, Event::K1, Event::K2, Event::K3];
+    let of_groups = [Event::OneGroup, Event::TwoGroups, Event::ThreeGroups, Event::FourGroups];
+    tally.event(of_k[usize::from(making.k)]);
+    tally.event(of_groups[usize::from(making.groups) - 1]);
+    match making.delta {
+        0..=5 => tally.event(Event::SmallDelta),
+        500_000.. => tally.event(Event::LargeDelta),
+        _ => {}
+    }
+}
+
+/// What a replica accepted and handled before, to tell how requests come.
+#[derive(Default)]
+struct Past {
+    accepted: BTreeSet<Request>,
+    /// The latest timestamp of each group that was accepted and handled.
+    latest: [Option<Timestamp>; 5],
+    handled: [Option<Timestamp>; 5],
+}
+
+impl Past {
+    fn accept(&mut self, request: Request, tally: &mut Tally) {
+        let group = usize::from(request.group);
+        let timestamp = Some(request.timestamp);
+        if !self.accepted.insert(request) {
+            tally.event(Event::Repeated);
+        }
+        if timestamp < self.latest[group] {
+            tally.event(Event::OutOfOrder);
+        }
+        if timestamp < self.handled[group] {
+            tally.event(Event::Late);
+        }
+        self.latest[group] = self.latest[group].max(timestamp);
+    }
+
+    /// The batches before a step of which nothing is pending afterwards.
+    fn handle(&mut self, before: &[Pending], after: &[Pending]) {
+        let batch = |p: &Pending| (p.request.group, p.request.timestamp);
+        let left: BTreeSet<_> = after.iter().map(batch).collect();
+        for (group, timestamp) in before.iter().map(batch).filter(|b| !left.contains(b)) {
+            let handled = &mut self.handled[usize::from(group)];
+            *handled = (*handled).max(Some(timestamp));
+        }
+    }
+}
+
+impl Pair {
+    /// Delivers to both.
+    pub fn deliver(&mut self, bytes: &[u8], at: u64, tally: &mut Tally) -> Outcome {
+        self.actions.push(Action::Deliver { bytes: bytes.to_vec(), at });
+        let expected = self.model.deliver(bytes, LocalTime(at));
+        let found = ffi::deliver(self.other, bytes, ffi::LocalTime(at));
+        self.other = found.replica;
+        tally.answer(Call::Deliver, number_of(&expected));
+        same("refusal", number_of(&expected), found.refusal, || self.input())?;
+        if expected.is_ok() {
+            self.note_arrival(tally);
+        }
+        self.compare(at, tally)
+    }
+
+    fn note_arrival(&mut self, tally: &mut Tally) {
+        if self.model.pending.len() == PENDING_LIMIT {
+            tally.event(Event::FullPending);
+        }
+        if let Some(arrived) = self.model.pending.last() {
+            self.past.accept(arrived.request, tally);
+        }
+    }
+
+    /// Steps both, with random bytes in the output.
+    pub fn step(
+        &mut self,
+        at: u64,
+        room: usize,
+        random: &mut Random,
+        tally: &mut Tally,
+    ) -> Outcome {
+        self.actions.push(Action::Step { at, room });
+        self.note_step(at, room, tally);
+        let mut lent = Lent::new(room, random);
+        let mut output = lent.original();
+        let before = self.model.clone();
+        let expected = self.model.step(LocalTime(at), &mut output);
+        let found = ffi::step(self.other, ffi::LocalTime(at), lent.lend());
+        self.other = found.replica;
+        tally.answer(Call::Step, number_of(&expected));
+        same("refusal", number_of(&expected), found.refusal, || self.input())?;
+        match expected {
+            Ok(count) => {
+                same("number of messages", count, found.count, || self.input())?;
+                note_messages(&output[..count * RECORD_SIZE], tally);
+            }
+            Err(_) => note_free_part(found.count != 0, tally),
+        }
+        lent.check(&output, || self.input())?;
+        self.note_changes(&before, tally);
+        self.compare(at, tally)
+    }
+
+    fn note_changes(&mut self, before: &Replica, tally: &mut Tally) {
+        if self.model.failed() && !before.failed() {
+            tally.event(Event::Freeze);
+        }
+        tally.events(Event::PerformedWrite, self.model.writes - before.writes);
+        self.past.handle(&before.pending, &self.model.pending);
+    }
+
+    /// Puts something else into the free places of the other side's array.
+    pub fn scramble(&mut self, random: &mut Random, tally: &mut Tally) {
+        tally.event(Event::ScrambledPlaces);
+        let count = self.other.count.min(PENDING_LIMIT);
+        let (taken, free) = self.other.pending.split_at_mut(count);
+        for place in free {
+            *place = some_pending(taken, self.making, random);
+        }
+    }
+
+    fn compare(&self, at: u64, tally: &mut Tally) -> Outcome {
+        if at == TIME_LIMIT.0 {
+            tally.event(Event::LatestTime);
+        }
+        same_replica(&self.model, &self.other, &|| self.input())
+    }
+
+    fn note_step(&self, at: u64, room: usize, tally: &mut Tally) {
+        let delta = self.model.delta;
+        if self.model.pending.iter().any(|waiting| waiting.arrival.0 + delta == at) {
+            tally.event(Event::ExactlyDelta);
+        }
+        if let Some(event) = event_of_room(room) {
+            tally.event(event);
+        }
+    }
+
+    /// All calls of the run so far.
+    fn input(&self) -> String {
+        let mut text = format!("make {:?}", self.making);
+        for action in &self.actions {
+            text.push_str(&format!("\n{action}"));
+        }
+        text
+    }
+}
+
+/// A request that looks like a pending one, or noise.
+fn some_pending(taken: &[ffi::Pending], making: Making, random: &mut Random) -> ffi::Pending {
+    if !taken.is_empty() && random.chance(1, 2) {
+        return random.pick(taken);
+    }
+    let request = some_request(making.k, making.groups, random).into();
+    ffi::Pending { request, arrival: ffi::LocalTime(random.pick(&[0, 1, u64::MAX])) }
+}
+
+fn event_of_room(room: usize) -> Option<Event> {
+    match room {
+        0 => Some(Event::RoomOf0),
+        1_607 => Some(Event::RoomOf1607),
+        1_608 => Some(Event::RoomOf1608),
+        _ => (room > OUTPUT_SIZE).then_some(Event::MoreRoom),
+    }
+}
+
+fn note_messages(output: &[u8], tally: &mut Tally) {
+    for record in output.chunks_exact(RECORD_SIZE) {
+        tally.event(if record[0] == REPLY { Event::Reply } else { Event::Halt });
+    }
+    if output.len() == STEP_MESSAGES * RECORD_SIZE {
+        tally.event(Event::FullStep);
+    }
+}
+
+/// Compares the variables and names the first that differs.
+fn same_variables(
+    expected: &[u32; VARIABLES],
+    found: &[u32; VARIABLES],
+    input: &dyn Fn() -> String,
+) -> Outcome {
+    match (0..VARIABLES).find(|&variable| expected[variable] != found[variable]) {
+        Some(v) => same(&format!("variable {v}"), expected[v], found[v], input),
+        None => Ok(()),
+    }
+}
+
+/// Compares all that the interface settles of a replica.
+fn same_replica(model: &Replica, other: &ffi::Replica, input: &dyn Fn() -> String) -> Outcome {
+    let settings = |k, groups, owner, number, delta| (k, groups, owner, number, delta);
+    same(
+        "k, groups, owner, number and delta",
+        settings(
+            model.settings.k(),
+            model.settings.groups(),
+            model.owner,
+            model.number,
+            model.delta,
+        ),
+        settings(other.k, other.groups, other.owner, other.number, other.delta),
+        input,
+    )?;
+    same("last local time", model.last.0, other.last.0, input)?;
+    same("performed writes", model.writes, other.writes, input)?;
+    same_variables(&model.variables, &other.variables, input)?;
+    same("number of pending requests", model.pending.len(), other.count, input)?;
+    for (expected, found) in model.pending.iter().zip(&other.pending) {
+        same("pending request", ffi::Pending::from(expected), *found, input)?;
+    }
+    Ok(())
+}

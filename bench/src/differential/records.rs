@@ -1,0 +1,224 @@
+//! Records: bytes of every length, valid and damaged, read by both sides, and
+//! fields, allowed or not, written by both sides.
+
+use super::lent::Lent;
+use super::tally::{Call, Event, Tally};
+use super::{same, Outcome};
+use crate::ffi;
+use crate::model::record::{self, MessageFields, RequestFields};
+use crate::model::{number_of, Timestamp, RECORD_SIZE};
+use crate::random::Random;
+use crate::traffic;
+
+/// The longest record and destination that are tried.
+pub const LONGEST: usize = 40;
+
+/// One record of each sort in each direction.
+pub fn run(random: &mut Random, tally: &mut Tally) -> Outcome {
+    tally.event(Event::RecordRun);
+    let length = some_length(random);
+    one_of_each(length, random, tally)
+}
+
+/// Records of every length, some of each.
+pub fn every_length(random: &mut Random, tally: &mut Tally) -> Outcome {
+    for length in 0..=LONGEST {
+        for _ in 0..8 {
+            one_of_each(length, random, tally)?;
+        }
+    }
+    Ok(())
+}
+
+fn some_length(random: &mut Random) -> usize {
+    if random.chance(3, 4) {
+        RECORD_SIZE
+    } else {
+        random.index(LONGEST + 1)
+    }
+}
+
+fn one_of_each(length: usize, random: &mut Random, tally: &mut Tally) -> Outcome {
+    tally.record(length);
+    let (k, n) = settings(random);
+    let request = some_request(k, n, random);
+    let message = some_message(k, n, random);
+    read_request(k, n, &some_bytes(request.encode(), length, random), tally)?;
+    read_message(k, n, &some_bytes(message.encode(), length, random), tally)?;
+    write_request(k, n, request, Lent::new(length, random), tally)?;
+    write_message(k, n, message, Lent::new(length, random), tally)
+}
+
+/// k and n, now and then not allowed.
+pub fn settings(random: &mut Random) -> (u8, u8) {
+    let k = if random.chance(1, 40) { random.pick(&[4, 5, 128, 255]) } else { random.small(0, 3) };
+    let n = if random.chance(1, 40) { random.pick(&[0, 5, 6, 255]) } else { random.small(1, 4) };
+    (k, n)
+}
+
+/// A number within 1 to the limit, now and then not.
+fn about(limit: u8, random: &mut Random) -> u8 {
+    if random.chance(1, 16) {
+        random.pick(&[0, limit.wrapping_add(1), 255, 128])
+    } else {
+        random.small(1, limit.max(1))
+    }
+}
+
+fn some_variable(random: &mut Random) -> u16 {
+    match random.below(24) {
+        0 => 256,
+        1 => random.bits() as u16,
+        2 | 3 => 0,
+        _ => u16::from(traffic::read_variable(random)),
+    }
+}
+
+fn some_timestamp(random: &mut Random) -> Timestamp {
+    Timestamp(traffic::first_timestamp(random))
+}
+
+/// Fields of a request, mostly allowed ones.
+pub fn some_request(k: u8, n: u8, random: &mut Random) -> RequestFields {
+    let kind = random.pick(&[1, 1, 1, 1, 2, 2, 2, 2, 2, 0, 3, 4, 5, 255]);
+    let variable = some_variable(random);
+    let valued = kind == 2 || random.chance(1, 12);
+    RequestFields {
+        kind,
+        group: about(n, random),
+        process: about(k.saturating_add(1), random),
+        variable,
+        timestamp: some_timestamp(random),
+        value: if valued { traffic::value(random) } else { 0 },
+    }
+}
+
+/// Fields of a message, mostly allowed ones.
+pub fn some_message(k: u8, n: u8, random: &mut Random) -> MessageFields {
+    let kind = random.pick(&[3, 3, 3, 3, 4, 4, 4, 4, 4, 1, 2, 5, 0, 255]);
+    let halt = kind == 4 && random.chance(11, 12);
+    MessageFields {
+        kind,
+        group: about(n, random),
+        process: about(k.saturating_add(1), random),
+        replica: about(k.saturating_mul(2).saturating_add(1), random),
+        variable: if halt { 0 } else { some_variable(random) },
+        timestamp: some_timestamp(random),
+        value: if halt && random.chance(11, 12) { 0 } else { traffic::value(random) },
+    }
+}
+
+/// The record with another length, damaged in some cases.
+fn some_bytes(record: [u8; RECORD_SIZE], length: usize, random: &mut Random) -> Vec<u8> {
+    let mut bytes = vec![0; length];
+    let common = length.min(RECORD_SIZE);
+    bytes[..common].copy_from_slice(&record[..common]);
+    if random.chance(1, 3) {
+        damage(&mut bytes, random);
+    }
+    bytes
+}
+
+/// Changes one byte, mostly to a value at some limit.
+pub fn damage(bytes: &mut [u8], random: &mut Random) {
+    if bytes.is_empty() {
+        return;
+    }
+    let place = random.index(bytes.len());
+    bytes[place] = match random.below(4) {
+        0 => random.byte(),
+        1 => bytes[place] ^ (1 << random.below(8)),
+        2 => bytes[place].wrapping_add(1),
+        _ => random.pick(&[0, 1, 2, 3, 4, 5, 6, 255]),
+    };
+}
+
+fn read_request(k: u8, n: u8, bytes: &[u8], tally: &mut Tally) -> Outcome {
+    let input = || format!("read request, k {k}, n {n}, bytes {bytes:?}");
+    let expected = record::read_request(k, n, bytes);
+    let found = ffi::read_request(k, n, bytes);
+    tally.answer(Call::ReadRequest, number_of(&expected));
+    same("refusal", number_of(&expected), found.refusal, input)?;
+    let fields = expected.map(|request| request.fields()).unwrap_or_default();
+    same("request", fields, found.request.into(), input)?;
+    match expected {
+        Ok(_) => written_again(k, n, &found.request, bytes),
+        Err(_) => Ok(()),
+    }
+}
+
+/// What was read must be written in the same form.
+fn written_again(k: u8, n: u8, request: &ffi::Request, bytes: &[u8]) -> Outcome {
+    let input = || format!("write what was read, k {k}, n {n}, bytes {bytes:?}");
+    let mut destination = [0xff; RECORD_SIZE];
+    let refusal = ffi::write_request(k, n, *request, &mut destination);
+    same("refusal", 0, refusal, input)?;
+    same("bytes", bytes, &destination[..], input)
+}
+
+fn read_message(k: u8, n: u8, bytes: &[u8], tally: &mut Tally) -> Outcome {
+    let input = || format!("read message, k {k}, n {n}, bytes {bytes:?}");
+    let expected = record::read_message(k, n, bytes);
+    let found = ffi::read_message(k, n, bytes);
+    tally.answer(Call::ReadMessage, number_of(&expected));
+    same("refusal", number_of(&expected), found.refusal, input)?;
+    match expected {
+        Ok(message) => {
+            same("message", message.fields(), found.message.into(), input)?;
+            message_written_again(k, n, &found.message, bytes)
+        }
+        Err(_) => {
+            note_free_part(found.message != ffi::Message::default(), tally);
+            Ok(())
+        }
+    }
+}
+
+fn message_written_again(k: u8, n: u8, message: &ffi::Message, bytes: &[u8]) -> Outcome {
+    let input = || format!("write what was read, k {k}, n {n}, bytes {bytes:?}");
+    let mut destination = [0xff; RECORD_SIZE];
+    let refusal = ffi::write_message(k, n, *message, &mut destination);
+    same("refusal", 0, refusal, input)?;
+    same("bytes", bytes, &destination[..], input)
+}
+
+/// A refusal carries only its number; what else comes along is only counted.
+pub fn note_free_part(something: bool, tally: &mut Tally) {
+    if something {
+        tally.event(Event::FreePart);
+    }
+}
+
+fn write_request(
+    k: u8,
+    n: u8,
+    fields: RequestFields,
+    mut lent: Lent,
+    tally: &mut Tally,
+) -> Outcome {
+    let mut expected_bytes = lent.original();
+    let length = expected_bytes.len();
+    let input = || format!("write request, k {k}, n {n}, {fields:?} to {length} bytes");
+    let expected = record::write_request(k, n, &fields, &mut expected_bytes);
+    let refusal = ffi::write_request(k, n, fields.into(), lent.lend());
+    tally.answer(Call::WriteRequest, number_of(&expected));
+    same("refusal", number_of(&expected), refusal, input)?;
+    lent.check(&expected_bytes, input)
+}
+
+fn write_message(
+    k: u8,
+    n: u8,
+    fields: MessageFields,
+    mut lent: Lent,
+    tally: &mut Tally,
+) -> Outcome {
+    let mut expected_bytes = lent.original();
+    let length = expected_bytes.len();
+    let input = || format!("write message, k {k}, n {n}, {fields:?} to {length} bytes");
+    let expected = record::write_message(k, n, &fields, &mut expected_bytes);
+    let refusal = ffi::write_message(k, n, fields.into(), lent.lend());
+    tally.answer(Call::WriteMessage, number_of(&expected));
+    same("refusal", number_of(&expected), refusal, input)?;
+    lent.check(&expected_bytes, input)
+}

@@ -1,0 +1,262 @@
+//! What the generated inputs made happen.
+
+use std::fmt::{self, Display, Formatter};
+
+/// The calls whose answers are counted.
+#[derive(Clone, Copy, Debug, PartialEq, Eq)]
+pub enum Call {
+    ReadRequest,
+    ReadMessage,
+    WriteRequest,
+    WriteMessage,
+    Make,
+    Deliver,
+    Step,
+    Vote,
+    CountHalts,
+    Journal,
+}
+
+/// For each call its name and the answers that must occur, 0 for work done.
+/// They are all that document 01 allows for well-formed replicas.
+const CALLS: [(Call, &str, &[u8]); 10] = [
+    (Call::ReadRequest, "read request", &[0, 1, 2, 6, 7, 8, 9, 10, 11]),
+    (Call::ReadMessage, "read message", &[0, 1, 2, 5, 6, 7, 8, 9, 10, 11]),
+    (Call::WriteRequest, "write request", &[0, 1, 2, 7, 8, 9, 10, 11, 15]),
+    (Call::WriteMessage, "write message", &[0, 1, 2, 5, 7, 8, 9, 10, 11, 15]),
+    (Call::Make, "make", &[0, 1, 2, 3, 4, 5]),
+    (Call::Deliver, "deliver", &[0, 6, 7, 8, 9, 10, 11, 12, 13, 14]),
+    (Call::Step, "step", &[0, 12, 13, 15]),
+    (Call::Vote, "vote", &[0, 1, 2, 16, 17]),
+    (Call::CountHalts, "count halts", &[0, 1, 2, 16]),
+    (Call::Journal, "journal", &[1, 2, 3, 4, 5, 7, 8, 9, 10, 11, 12, 13, 14, 18, 19, 20]),
+];
+
+/// Refusal numbers go up to 20.
+const ANSWERS: usize = 21;
+
+/// What else is counted.
+#[derive(Clone, Copy, Debug, PartialEq, Eq)]
+pub enum Event {
+    RecordRun,
+    ReplicaRun,
+    MalformedRun,
+    VoteRun,
+    JournalRun,
+    K0,
+    K1,
+    K2,
+    K3,
+    OneGroup,
+    TwoGroups,
+    ThreeGroups,
+    FourGroups,
+    SmallDelta,
+    LargeDelta,
+    OutOfOrder,
+    Repeated,
+    Late,
+    Reply,
+    Halt,
+    Freeze,
+    PerformedWrite,
+    FullPending,
+    FullStep,
+    ExactlyDelta,
+    LatestTime,
+    RoomOf0,
+    RoomOf1607,
+    RoomOf1608,
+    MoreRoom,
+    ScrambledPlaces,
+    DamagedMessage,
+    RepeatedMessage,
+    EveryHalt,
+    MalformedCall,
+    JournalWhole,
+    JournalCut,
+    JournalNoise,
+    JournalLong,
+    FreePart,
+}
+
+/// For each event its name and whether it must occur.
+const EVENTS: [(Event, &str, bool); 40] = [
+    (Event::RecordRun, "runs with records", true),
+    (Event::ReplicaRun, "runs with replicas", true),
+    (Event::MalformedRun, "runs with malformed arguments", true),
+    (Event::VoteRun, "runs with votes", true),
+    (Event::JournalRun, "runs with journals", true),
+    (Event::K0, "replicas with k = 0", true),
+    (Event::K1, "replicas with k = 1", true),
+    (Event::K2, "replicas with k = 2", true),
+    (Event::K3, "replicas with k = 3", true),
+    (Event::OneGroup, "replicas with one group", true),
+    (Event::TwoGroups, "replicas with two groups", true),
+    (Event::ThreeGroups, "replicas with three groups", true),
+    (Event::FourGroups, "replicas with four groups", true),
+    (Event::SmallDelta, "replicas with delta up to 5", true),
+    (Event::LargeDelta, "replicas with delta from 500,000", true),
+    (Event::OutOfOrder, "requests accepted after a later one of their group", true),
+    (Event::Repeated, "requests accepted again", true),
+    (Event::Late, "requests accepted after a later one was handled", true),
+    (Event::Reply, "replies sent", true),
+    (Event::Halt, "halts sent", true),
+    (Event::Freeze, "freezes", true),
+    (Event::PerformedWrite, "performed writes", true),
+    (Event::FullPending, "pending arrays filled", true),
+    (Event::FullStep, "steps with 67 messages", true),
+    (Event::ExactlyDelta, "steps exactly delta after an arrival", true),
+    (Event::LatestTime, "calls at local time 2^62", true),
+    (Event::RoomOf0, "steps with 0 bytes of output", true),
+    (Event::RoomOf1607, "steps with 1,607 bytes of output", true),
+    (Event::RoomOf1608, "steps with 1,608 bytes of output", true),
+    (Event::MoreRoom, "steps with more output", true),
+    (Event::ScrambledPlaces, "calls with scrambled free places", true),
+    (Event::DamagedMessage, "damaged or forged messages in lists", true),
+    (Event::RepeatedMessage, "repeated messages in lists", true),
+    (Event::EveryHalt, "halt counts of k+1 or more", true),
+    (Event::MalformedCall, "calls with malformed arguments", true),
+    (Event::JournalWhole, "journals of whole records", true),
+    (Event::JournalCut, "journals cut off", true),
+    (Event::JournalNoise, "journals of random bytes", true),
+    (Event::JournalLong, "journals of over 64 KiB", true),
+    (Event::FreePart, "refusals with something in an unsettled part", false),
+];
+
+/// Lists of 0 to 65 messages occur, and records of 0 to 40 bytes.
+const LIST_LENGTHS: usize = 66;
+const RECORD_LENGTHS: usize = 41;
+
+/// The counts of a whole program run.
+#[derive(Clone, Debug)]
+pub struct Tally {
+    answers: [[u64; ANSWERS]; CALLS.len()],
+    events: [u64; EVENTS.len()],
+    lists: [u64; LIST_LENGTHS],
+    records: [u64; RECORD_LENGTHS],
+    with_journals: bool,
+}
+
+impl Tally {
+    pub fn new(with_journals: bool) -> Tally {
+        Tally {
+            answers: [[0; ANSWERS]; CALLS.len()],
+            events: [0; EVENTS.len()],
+            lists: [0; LIST_LENGTHS],
+            records: [0; RECORD_LENGTHS],
+            with_journals,
+        }
+    }
+
+    pub fn answer(&mut self, call: Call, refusal: u8) {
+        self.answers[call as usize][usize::from(refusal)] += 1;
+    }
+
+    pub fn event(&mut self, event: Event) {
+        self.events(event, 1);
+    }
+
+    pub fn events(&mut self, event: Event, times: u64) {
+        self.events[event as usize] += times;
+    }
+
+    /// A list of so many messages.
+    pub fn list(&mut self, length: usize) {
+        self.lists[length] += 1;
+    }
+
+    /// A record or a destination of so many bytes.
+    pub fn record(&mut self, length: usize) {
+        self.records[length] += 1;
+    }
+
+    pub fn times(&self, event: Event) -> u64 {
+        self.events[event as usize]
+    }
+
+    /// What had to occur and did not.
+    pub fn missing(&self) -> Vec<String> {
+        let mut missing = Vec::new();
+        for (call, name, wanted) in CALLS.iter().filter(|row| self.wants_call(row.0)) {
+            for answer in wanted.iter().filter(|&&answer| self.count(*call, answer) == 0) {
+                missing.push(format!("{name} never answered {answer}"));
+            }
+        }
+        for (event, name, wanted) in EVENTS.iter().filter(|row| self.wants_event(row.0)) {
+            if *wanted && self.times(*event) == 0 {
+                missing.push(format!("no {name}"));
+            }
+        }
+        missing.extend(missing_length("list", &self.lists));
+        missing.extend(missing_length("record", &self.records));
+        missing
+    }
+
+    fn count(&self, call: Call, answer: u8) -> u64 {
+        self.answers[call as usize][usize::from(answer)]
+    }
+
+    fn wants_call(&self, call: Call) -> bool {
+        self.with_journals || call != Call::Journal
+    }
+
+    fn wants_event(&self, event: Event) -> bool {
+        let of_journals = matches!(
+            event,
+            Event::JournalRun
+                | Event::JournalWhole
+                | Event::JournalCut
+                | Event::JournalNoise
+                | Event::JournalLong
+        );
+        self.with_journals || !of_journals
+    }
+
+    fn write_answers(&self, f: &mut Formatter) -> fmt::Result {
+        writeln!(f, "answers of each call (0: it did its work; otherwise the refusal number)")?;
+        for (call, name, _) in CALLS.iter().filter(|row| self.wants_call(row.0)) {
+            write!(f, "  {name:<14}")?;
+            for answer in (0..ANSWERS as u8).filter(|&answer| self.count(*call, answer) > 0) {
+                write!(f, " {answer}:{}", self.count(*call, answer))?;
+            }
+            writeln!(f)?;
+        }
+        Ok(())
+    }
+}
+
+/// The first length that did not occur.
+fn missing_length(of_what: &str, times: &[u64]) -> Option<String> {
+    let length = times.iter().position(|&times| times == 0)?;
+    Some(format!("no {of_what} of length {length}"))
+}
+
+fn write_lengths(of_what: &str, times: &[u64], f: &mut Formatter) -> fmt::Result {
+    let least = times.iter().min().copied().unwrap_or(0);
+    let longest = times.len() - 1;
+    writeln!(f, "  {least:>10} {of_what} of each length from 0 to {longest}, at least")
+}
+
+impl Display for Tally {
+    fn fmt(&self, f: &mut Formatter) -> fmt::Result {
+        self.write_answers(f)?;
+        writeln!(f, "what occurred")?;
+        for (event, name, _) in EVENTS.iter().filter(|row| self.wants_event(row.0)) {
+            writeln!(f, "  {:>10} {name}", self.times(*event))?;
+        }
+        write_lengths("records and destinations", &self.records, f)?;
+        write_lengths("lists", &self.lists, f)
+    }
+}
+
+#[cfg(test)]
+mod tests {
+    use super::*;
+
+    #[test]
+    fn the_tables_stand_in_the_order_of_the_names() {
+        assert!(CALLS.iter().enumerate().all(|(place, row)| row.0 as usize == place));
+        assert!(EVENTS.iter().enumerate().all(|(place, row)| row.0 as usize == place));
+    }
+}

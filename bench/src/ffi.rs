@@ -1,0 +1,265 @@
+//! The C functions of libexport.a and a safe function for each of them.
+
+#![allow(unsafe_code)]
+
+/// A process's clock.
+#[repr(C)]
+#[derive(Clone, Copy, Debug, Default, PartialEq, Eq)]
+pub struct Timestamp(pub u64);
+
+/// A replica's clock.
+#[repr(C)]
+#[derive(Clone, Copy, Debug, Default, PartialEq, Eq)]
+pub struct LocalTime(pub u64);
+
+#[repr(C)]
+#[derive(Clone, Copy, Debug, Default, PartialEq, Eq)]
+pub struct Request {
+    pub kind: u8,
+    pub group: u8,
+    pub process: u8,
+    pub variable: u16,
+    pub timestamp: Timestamp,
+    pub value: u32,
+}
+
+#[repr(C)]
+#[derive(Clone, Copy, Debug, Default, PartialEq, Eq)]
+pub struct Message {
+    pub kind: u8,
+    pub group: u8,
+    pub process: u8,
+    pub replica: u8,
+    pub variable: u16,
+    pub timestamp: Timestamp,
+    pub value: u32,
+}
+
+#[repr(C)]
+#[derive(Clone, Copy, Debug, Default, PartialEq, Eq)]
+pub struct Pending {
+    pub request: Request,
+    pub arrival: LocalTime,
+}
+
+#[repr(C)]
+#[derive(Clone, Copy, Debug)]
+pub struct Replica {
+    pub k: u8,
+    pub groups: u8,
+    pub owner: u8,
+    pub number: u8,
+    pub delta: u64,
+    pub last: LocalTime,
+    pub variables: [u32; 256],
+    pub pending: [Pending; 64],
+    pub count: usize,
+    pub writes: u64,
+}
+
+#[repr(C)]
+#[derive(Clone, Copy, Debug, Default, PartialEq, Eq)]
+pub struct Query {
+    pub group: u8,
+    pub process: u8,
+    pub variable: u16,
+    pub timestamp: Timestamp,
+}
+
+/// The first `count` messages are the list.
+#[repr(C)]
+#[derive(Clone, Copy, Debug)]
+pub struct List {
+    pub messages: [Message; 65],
+    pub count: usize,
+}
+
+#[repr(C)]
+#[derive(Clone, Copy, Debug)]
+pub struct RequestResult {
+    pub refusal: u8,
+    pub request: Request,
+}
+
+#[repr(C)]
+#[derive(Clone, Copy, Debug)]
+pub struct MessageResult {
+    pub refusal: u8,
+    pub message: Message,
+}
+
+#[repr(C)]
+#[derive(Clone, Copy, Debug)]
+pub struct ReplicaResult {
+    pub refusal: u8,
+    pub replica: Replica,
+}
+
+#[repr(C)]
+#[derive(Clone, Copy, Debug)]
+pub struct StepResult {
+    pub refusal: u8,
+    pub count: usize,
+    pub replica: Replica,
+}
+
+#[repr(C)]
+#[derive(Clone, Copy, Debug, PartialEq, Eq)]
+pub struct ValueResult {
+    pub refusal: u8,
+    pub value: u64,
+}
+
+extern "C" {
+    fn export_read_request(k: u8, n: u8, bytes: *const u8, length: usize) -> RequestResult;
+    fn export_read_message(k: u8, n: u8, bytes: *const u8, length: usize) -> MessageResult;
+    fn export_write_request(k: u8, n: u8, r: Request, bytes: *mut u8, length: usize) -> u8;
+    fn export_write_message(k: u8, n: u8, m: Message, bytes: *mut u8, length: usize) -> u8;
+    fn export_make(k: u8, n: u8, owner: u8, delta: u64, number: u8) -> ReplicaResult;
+    fn export_deliver(r: Replica, bytes: *const u8, length: usize, at: LocalTime) -> ReplicaResult;
+    fn export_step(r: Replica, at: LocalTime, output: *mut u8, length: usize) -> StepResult;
+    fn export_vote(k: u8, n: u8, q: Query, list: List) -> ValueResult;
+    fn export_count_halts(k: u8, n: u8, group: u8, process: u8, list: List) -> ValueResult;
+}
+
+// Each call lends a whole slice and passes plain numbers, of which all values
+// are allowed, so nothing is asked of the caller.
+
+#[inline]
+pub fn read_request(k: u8, n: u8, bytes: &[u8]) -> RequestResult {
+    unsafe { export_read_request(k, n, bytes.as_ptr(), bytes.len()) }
+}
+
+#[inline]
+pub fn read_message(k: u8, n: u8, bytes: &[u8]) -> MessageResult {
+    unsafe { export_read_message(k, n, bytes.as_ptr(), bytes.len()) }
+}
+
+#[inline]
+pub fn write_request(k: u8, n: u8, request: Request, destination: &mut [u8]) -> u8 {
+    unsafe { export_write_request(k, n, request, destination.as_mut_ptr(), destination.len()) }
+}
+
+#[inline]
+pub fn write_message(k: u8, n: u8, message: Message, destination: &mut [u8]) -> u8 {
+    unsafe { export_write_message(k, n, message, destination.as_mut_ptr(), destination.len()) }
+}
+
+#[inline]
+pub fn make(k: u8, n: u8, owner: u8, delta: u64, number: u8) -> ReplicaResult {
+    unsafe { export_make(k, n, owner, delta, number) }
+}
+
+#[inline]
+pub fn deliver(replica: Replica, bytes: &[u8], at: LocalTime) -> ReplicaResult {
+    unsafe { export_deliver(replica, bytes.as_ptr(), bytes.len(), at) }
+}
+
+#[inline]
+pub fn step(replica: Replica, at: LocalTime, output: &mut [u8]) -> StepResult {
+    unsafe { export_step(replica, at, output.as_mut_ptr(), output.len()) }
+}
+
+#[inline]
+pub fn vote(k: u8, n: u8, query: Query, list: List) -> ValueResult {
+    unsafe { export_vote(k, n, query, list) }
+}
+
+#[inline]
+pub fn count_halts(k: u8, n: u8, group: u8, process: u8, list: List) -> ValueResult {
+    unsafe { export_count_halts(k, n, group, process, list) }
+}
+
+/// The same symbols over the model, in the place of libexport.a.
+///
+/// Each of them must be lent `length` bytes at the pointer.
+#[cfg(feature = "fake")]
+mod symbols {
+    use std::slice::{from_raw_parts, from_raw_parts_mut};
+
+    use super::*;
+    use crate::fake;
+
+    #[no_mangle]
+    unsafe extern "C" fn export_read_request(
+        k: u8,
+        n: u8,
+        bytes: *const u8,
+        length: usize,
+    ) -> RequestResult {
+        fake::read_request(k, n, from_raw_parts(bytes, length))
+    }
+
+    #[no_mangle]
+    unsafe extern "C" fn export_read_message(
+        k: u8,
+        n: u8,
+        bytes: *const u8,
+        length: usize,
+    ) -> MessageResult {
+        fake::read_message(k, n, from_raw_parts(bytes, length))
+    }
+
+    #[no_mangle]
+    unsafe extern "C" fn export_write_request(
+        k: u8,
+        n: u8,
+        r: Request,
+        bytes: *mut u8,
+        length: usize,
+    ) -> u8 {
+        fake::write_request(k, n, r, from_raw_parts_mut(bytes, length))
+    }
+
+    #[no_mangle]
+    unsafe extern "C" fn export_write_message(
+        k: u8,
+        n: u8,
+        m: Message,
+        bytes: *mut u8,
+        length: usize,
+    ) -> u8 {
+        fake::write_message(k, n, m, from_raw_parts_mut(bytes, length))
+    }
+
+    #[no_mangle]
+    extern "C" fn export_make(k: u8, n: u8, owner: u8, delta: u64, number: u8) -> ReplicaResult {
+        fake::make(k, n, owner, delta, number)
+    }
+
+    #[no_mangle]
+    unsafe extern "C" fn export_deliver(
+        r: Replica,
+        bytes: *const u8,
+        length: usize,
+        at: LocalTime,
+    ) -> ReplicaResult {
+        fake::deliver(r, from_raw_parts(bytes, length), at)
+    }
+
+    #[no_mangle]
+    unsafe extern "C" fn export_step(
+        r: Replica,
+        at: LocalTime,
+        output: *mut u8,
+        length: usize,
+    ) -> StepResult {
+        fake::step(r, at, from_raw_parts_mut(output, length))
+    }
+
+    #[no_mangle]
+    extern "C" fn export_vote(k: u8, n: u8, q: Query, list: List) -> ValueResult {
+        fake::vote(k, n, q, &list)
+    }
+
+    #[no_mangle]
+    extern "C" fn export_count_halts(
+        k: u8,
+        n: u8,
+        group: u8,
+        process: u8,
+        list: List,
+    ) -> ValueResult {
+        fake::count_halts(k, n, group, process, &list)
+    }
+}

@@ -1,0 +1,29 @@
+//! An independent model of the fail-stop store of document 01, and what
+//! compares the verified implementation with it.
+
+#![deny(unsafe_code)]
+
+pub mod model;
+pub mod random;
+pub mod traffic;
+
+#[cfg(feature = "linked")]
+pub mod convert;
+#[cfg(feature = "linked")]
+pub mod differential;
+#[cfg(feature = "fake")]
+pub mod fake;
+#[cfg(feature = "linked")]
+pub mod ffi;
+#[cfg(feature = "linked")]
+pub mod simulation;
+
+/// What the model is compared with.
+#[cfg(feature = "linked")]
+pub fn other_side() -> &'static str {
+    if cfg!(feature = "fake") {
+        "the fake"
+    } else {
+        "libexport.a"
+    }
+}

@@ -1,0 +1,259 @@
+//! The same replica by value: a struct with fixed arrays, as large as the one
+//! of the C interface, that goes in and comes out of each call.
+
+use super::record::{Content, Message, RequestFields, READ, WRITE};
+use super::{ask, LocalTime, Refusal, Settings, Timestamp};
+use super::{replica, FAILED, OUTPUT_SIZE, PENDING_LIMIT, RECORD_SIZE, TIME_LIMIT, VARIABLES};
+
+/// A pending request with plain fields.
+#[derive(Clone, Copy, Debug, Default, PartialEq, Eq)]
+pub struct Pending {
+    pub request: RequestFields,
+    pub arrival: LocalTime,
+}
+
+/// One copy of the store; the first `count` places of `pending` are taken.
+#[derive(Clone, Copy, Debug)]
+pub struct Replica {
+    pub k: u8,
+    pub groups: u8,
+    pub owner: u8,
+    pub number: u8,
+    pub delta: u64,
+    pub last: LocalTime,
+    pub variables: [u32; VARIABLES],
+    pub pending: [Pending; PENDING_LIMIT],
+    pub count: usize,
+    pub writes: u64,
+}
+
+/// What the look at a batch says.
+enum Verdict {
+    Reads,
+    Agreed(u8, u32),
+    Dissent,
+}
+
+/// The output of a step and the number of messages in it.
+struct Sending<'a> {
+    output: &'a mut [u8],
+    count: usize,
+}
+
+impl Sending<'_> {
+    fn send(&mut self, message: &Message) {
+        let place = &mut self.output[self.count * RECORD_SIZE..][..RECORD_SIZE];
+        place.copy_from_slice(&message.encode());
+        self.count += 1;
+    }
+}
+
+impl Replica {
+    /// A new replica. Questions 1 to 5.
+    pub fn make(k: u8, groups: u8, owner: u8, delta: u64, number: u8) -> Result<Self, Refusal> {
+        replica::Replica::make(k, groups, owner, delta, number)?;
+        Ok(Replica {
+            k,
+            groups,
+            owner,
+            number,
+            delta,
+            last: LocalTime(0),
+            variables: [0; VARIABLES],
+            pending: [Pending::default(); PENDING_LIMIT],
+            count: 0,
+            writes: 0,
+        })
+    }
+
+    /// Accepts a request. Questions 1, 2 and 6 to 14.
+    pub fn deliver(mut self, bytes: &[u8], at: LocalTime) -> (Self, Result<(), Refusal>) {
+        let result = self.accept(bytes, at);
+        (self, result)
+    }
+
+    /// Handles every stable batch. Questions 12, 13 and 15.
+    pub fn step(mut self, at: LocalTime, output: &mut [u8]) -> (Self, Result<usize, Refusal>) {
+        let result = self.handle_stable(at, output);
+        (self, result)
+    }
+
+    fn accept(&mut self, bytes: &[u8], at: LocalTime) -> Result<(), Refusal> {
+        let request = Settings::new(self.k, self.groups)?.read_request(bytes)?;
+        self.check_time(at)?;
+        let place = self.pending.get_mut(self.count).ok_or(Refusal::PendingFull)?;
+        *place = Pending { request: request.fields(), arrival: at };
+        self.count += 1;
+        self.last = at;
+        Ok(())
+    }
+
+    fn handle_stable(&mut self, at: LocalTime, output: &mut [u8]) -> Result<usize, Refusal> {
+        self.check_time(at)?;
+        ask(output.len() >= OUTPUT_SIZE, Refusal::TooLittleRoom)?;
+        self.last = at;
+        let mut sending = Sending { output, count: 0 };
+        let mut batch = [RequestFields::default(); PENDING_LIMIT];
+        for group in 1..=self.groups {
+            while let Some(timestamp) = self.stable_head(group, at) {
+                let length = self.take(group, timestamp, &mut batch);
+                self.handle(&batch[..length], &mut sending);
+            }
+        }
+        Ok(sending.count)
+    }
+
+    fn check_time(&self, at: LocalTime) -> Result<(), Refusal> {
+        ask(at <= TIME_LIMIT, Refusal::TimeTooLarge)?;
+        ask(at >= self.last, Refusal::TimeGoesBack)
+    }
+
+    /// The least timestamp of a group, if its batch is stable.
+    fn stable_head(&self, group: u8, at: LocalTime) -> Option<Timestamp> {
+        let mut head: Option<&Pending> = None;
+        for pending in self.pending[..self.count].iter().filter(|p| p.request.group == group) {
+            // Arrivals stand in order, so the first one found is the least.
+            if head.is_none_or(|head| pending.request.timestamp < head.request.timestamp) {
+                head = Some(pending);
+            }
+        }
+        head.filter(|head| head.arrival.0 + self.delta < at.0).map(|head| head.request.timestamp)
+    }
+
+    /// Moves a batch out and gives its length; the others move up in order.
+    fn take(&mut self, group: u8, timestamp: Timestamp, batch: &mut [RequestFields]) -> usize {
+        let (mut kept, mut taken) = (0, 0);
+        for place in 0..self.count {
+            let pending = self.pending[place];
+            if pending.request.group == group && pending.request.timestamp == timestamp {
+                batch[taken] = pending.request;
+                taken += 1;
+            } else {
+                self.pending[kept] = pending;
+                kept += 1;
+            }
+        }
+        self.count = kept;
+        taken
+    }
+
+    fn handle(&mut self, batch: &[RequestFields], sending: &mut Sending) {
+        let (group, timestamp) = (batch[0].group, batch[0].timestamp);
+        match judge(batch, usize::from(self.k) + 1) {
+            Verdict::Reads => self.answer(batch, sending),
+            _ if group != self.owner || self.variables[FAILED] != 0 => {}
+            Verdict::Agreed(variable, value) => {
+                self.variables[usize::from(variable)] = value;
+                self.writes += 1;
+            }
+            Verdict::Dissent => self.fail(timestamp, sending),
+        }
+    }
+
+    fn answer(&self, reads: &[RequestFields], sending: &mut Sending) {
+        for read in reads {
+            let variable = read.variable as u8;
+            let value = self.variables[usize::from(variable)];
+            sending.send(&Message {
+                group: read.group,
+                process: read.process,
+                replica: self.number,
+                timestamp: read.timestamp,
+                content: Content::Reply { variable, value },
+            });
+        }
+    }
+
+    fn fail(&mut self, timestamp: Timestamp, sending: &mut Sending) {
+        self.variables[FAILED] = 1;
+        for process in 1..=self.k + 1 {
+            sending.send(&Message {
+                group: self.owner,
+                process,
+                replica: self.number,
+                timestamp,
+                content: Content::Halt,
+            });
+        }
+    }
+}
+
+/// Looks at the requests of one group and timestamp, all of which passed the
+/// questions.
+fn judge(batch: &[RequestFields], quorum: usize) -> Verdict {
+    if batch.iter().all(|request| request.kind == READ) {
+        return Verdict::Reads;
+    }
+    let first = batch[0];
+    let mut processes = 0u32;
+    for request in batch {
+        let same = request.kind == WRITE
+            && request.variable == first.variable
+            && request.value == first.value;
+        if !same {
+            return Verdict::Dissent;
+        }
+        processes |= 1 << (request.process & 31);
+    }
+    if batch.len() == quorum && processes.count_ones() as usize == quorum {
+        Verdict::Agreed(first.variable as u8, first.value)
+    } else {
+        Verdict::Dissent
+    }
+}
+
+#[cfg(test)]
+mod tests {
+    use super::*;
+    use crate::random::Random;
+    use crate::traffic::{Cast, Traffic};
+
+    fn same(fixed: &Replica, model: &replica::Replica) -> bool {
+        let waiting = model
+            .pending
+            .iter()
+            .map(|p| Pending { request: p.request.fields(), arrival: p.arrival });
+        fixed.last == model.last
+            && fixed.variables == model.variables
+            && fixed.writes == model.writes
+            && fixed.pending[..fixed.count].iter().copied().eq(waiting)
+    }
+
+    /// Both replicas of the model get the same calls.
+    fn run_both(random: &mut Random) {
+        let cast = Cast::random(random);
+        let delta = random.below(20);
+        let mut model =
+            replica::Replica::make(cast.k, cast.groups, cast.owner, delta, 1).expect("allowed");
+        let mut fixed = Replica::make(cast.k, cast.groups, cast.owner, delta, 1).expect("allowed");
+        let mut traffic = Traffic::new(cast, random);
+        let mut at = 0;
+        for _ in 0..100 {
+            at += random.below(4);
+            let time = LocalTime(if random.chance(1, 20) { random.below(at + 1) } else { at });
+            if random.chance(1, 12) {
+                let mut outputs = [[7u8; OUTPUT_SIZE + 3]; 2];
+                let expected = model.step(time, &mut outputs[0]);
+                let (next, found) = fixed.step(time, &mut outputs[1]);
+                fixed = next;
+                assert_eq!(expected, found);
+                assert_eq!(outputs[0], outputs[1]);
+            } else {
+                let bytes = traffic.next(random).encode();
+                let expected = model.deliver(&bytes, time);
+                let (next, found) = fixed.deliver(&bytes, time);
+                fixed = next;
+                assert_eq!(expected, found);
+            }
+            assert!(same(&fixed, &model));
+        }
+    }
+
+    #[test]
+    fn agrees_with_the_other_replica() {
+        let mut random = Random::new(11);
+        for _ in 0..2_000 {
+            run_both(&mut random);
+        }
+    }
+}
