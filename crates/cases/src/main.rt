@@ -1,43 +1,86 @@
-// Runs the cases of document 01 that are to be executed: a script from standard input, a case a line. Each line is printed again
-// with what the call answered. The expected text was worked out from document 01 by an independent program.
+// Runs the cases of document 01 that are to be executed: a script from standard input, a case a line.
+// Each line is printed again with what the call answered. The expected text was worked out by a
+// separate program written from document 01 alone.
 mod records;
+mod replicas;
 mod script;
 mod show;
+mod votes;
 
+ghost use Prim.Native.Nat.{_≤_};
+ghost use lib.ListN.{length};
+use replica::Replica;
+use script::Name;
 use script::Scan;
+use votes::Heard;
 
-// The first letter of a line, and the one after its underscore, name the call.
-fn run_case(line: &[u8]) {
-    let words = script::scan_line(line);
-    let name = words.name;
-    if name == 1 {
-        records::read_request(words);
-    }
-    if name == 2 {
-        records::read_message(words);
-    }
-    if name == 3 {
-        records::write_request(words);
-    }
-    if name == 4 {
-        records::write_message(words);
+// What is kept from line to line.
+pub struct Session {
+    pub replica: Replica,
+    pub heard: Heard,
+}
+
+fn run_record(name: Name, s: Scan) {
+    match name {
+        Name::ReadRequest => records::read_request(s),
+        Name::ReadMessage => records::read_message(s),
+        Name::WriteRequest => records::write_request(s),
+        Name::WriteMessage => records::write_message(s),
+        _ => {}
     }
 }
 
-fn run_line(line: &[u8]) {
+fn run_replica(name: Name, s: Scan, r: Replica) -> Replica {
+    match name {
+        Name::Make => replicas::make(s, r),
+        Name::Spoil => replicas::spoil(s, r),
+        Name::Deliver => replicas::deliver(s, r),
+        Name::Step => replicas::step(s, r),
+        _ => r,
+    }
+}
+
+fn run_vote(name: Name, s: Scan, h: Heard) -> Heard {
+    match name {
+        Name::Clear => votes::none(),
+        Name::Hear => votes::hear(s, h),
+        Name::Vote => {
+            votes::show_vote(s, h);
+            h
+        }
+        Name::Halts => {
+            votes::show_halts(s, h);
+            h
+        }
+        _ => h,
+    }
+}
+
+fn run_line(line: &[u8], session: Session) -> Session {
     io::write_all(1, line);
-    run_case(line);
+    let name = script::name_of(line);
+    let s = script::scan_line(line);
+    let r = session.replica;
+    let h = session.heard;
+    run_record(name, s);
+    let replica = run_replica(name, s, r);
+    let heard = run_vote(name, s, h);
     io::write_all(1, b"\n");
+    Session { replica, heard }
 }
 
 fn main() {
-    let mut text = [0u8; 65536];
+    let mut text = [0u8; 131072];
     let filled = io::read_full(0, &mut text);
+    let made = replica::make(0, 1, 1, 0, 1);
+    let replica = made.replica;
+    let heard = votes::none();
+    let mut session = Session { replica, heard };
     let mut at: usize = 0;
     while at < filled {
         let end = script::line_end(&text, at);
         if at < end {
-            run_line(&text[at..end]);
+            session = run_line(&text[at..end], session);
         }
         at = end + 1;
     }

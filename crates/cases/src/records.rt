@@ -1,5 +1,6 @@
-// Cases of records. Reading: k, N, then the bytes. Writing: k, N, the destination's length, then the fields; the destination
-// is full of 170 before, and is shown after.
+// Cases of records. Reading: k, N, then the bytes. Writing: k, N, the destination's length, then the
+// fields; the destination is full of 170 before, and is shown after.
+ghost use Prim.Native.Nat.{_≤_};
 use crate::script::Scan;
 use record::Message;
 use record::MessageRead;
@@ -7,15 +8,25 @@ use record::Request;
 use record::RequestRead;
 use record::Timestamp;
 
-// The numbers from the third on, as bytes.
-fn given_bytes(s: Scan) -> [u8; 62] {
+// The numbers from a place on, as bytes.
+pub(crate) fn bytes_from(s: Scan, from: usize) -> [u8; 62] {
     let mut b = [0u8; 62];
     let mut i: usize = 0;
     while i < 62 {
-        b[i] = s.byte(i + 2);
+        b[i] = byte_at(s, from, i);
         i += 1;
     }
     b
+}
+
+fn byte_at(s: Scan, from: usize, i: usize) -> u8 {
+    if 64 <= from {
+        return 0;
+    }
+    if 64 <= i {
+        return 0;
+    }
+    s.byte(from + i)
 }
 
 fn read_request_in(k: u8, n: u8, b: &[u8], length: usize) {
@@ -32,7 +43,7 @@ pub(crate) fn read_request(s: Scan) {
     if s.count < 2 {
         return;
     }
-    let b = given_bytes(s);
+    let b = bytes_from(s, 2);
     read_request_in(s.byte(0), s.byte(1), &b, s.count - 2);
 }
 
@@ -41,7 +52,7 @@ fn read_message_in(k: u8, n: u8, b: &[u8], length: usize) {
         return;
     }
     match record::read_message(k, n, &b[0..length]) {
-        MessageRead::Accepted(m) => crate::show::message(m),
+        MessageRead::Accepted(m) => crate::show::accepted(m),
         MessageRead::Refused(q) => crate::show::refused(q),
     }
 }
@@ -50,7 +61,7 @@ pub(crate) fn read_message(s: Scan) {
     if s.count < 2 {
         return;
     }
-    let b = given_bytes(s);
+    let b = bytes_from(s, 2);
     read_message_in(s.byte(0), s.byte(1), &b, s.count - 2);
 }
 
@@ -68,9 +79,9 @@ pub(crate) fn write_request(s: Scan) {
         kind: s.byte(3),
         group: s.byte(4),
         process: s.byte(5),
-        variable: (s.number(6) % 65536) as u16,
+        variable: s.short(6),
         timestamp,
-        value: (s.number(8) % 4294967296) as u32,
+        value: s.word(8),
     };
     let mut d = [170u8; 32];
     write_request_in(s.byte(0), s.byte(1), r, &mut d, (s.number(2) % 33) as usize);
@@ -84,17 +95,31 @@ fn write_message_in(k: u8, n: u8, m: Message, d: &mut [u8], length: usize) {
     crate::show::bytes(d, length);
 }
 
-pub(crate) fn write_message(s: Scan) {
-    let timestamp = Timestamp(s.number(8));
-    let m = Message {
-        kind: s.byte(3),
-        group: s.byte(4),
-        process: s.byte(5),
-        replica: s.byte(6),
-        variable: (s.number(7) % 65536) as u16,
+// The seven fields of a message, from a place on.
+pub(crate) fn message_from(s: Scan, from: usize) -> Message {
+    if 32 <= from {
+        return message_from_here(s, 32);
+    }
+    message_from_here(s, from)
+}
+
+fn message_from_here(s: Scan, from: usize) -> Message
+    requires { ⌜ from ≤ 32 ⌝ }
+{
+    let timestamp = Timestamp(s.number(from + 5));
+    Message {
+        kind: s.byte(from),
+        group: s.byte(from + 1),
+        process: s.byte(from + 2),
+        replica: s.byte(from + 3),
+        variable: s.short(from + 4),
         timestamp,
-        value: (s.number(9) % 4294967296) as u32,
-    };
+        value: s.word(from + 6),
+    }
+}
+
+pub(crate) fn write_message(s: Scan) {
+    let m = message_from(s, 3);
     let mut d = [170u8; 32];
     write_message_in(s.byte(0), s.byte(1), m, &mut d, (s.number(2) % 33) as usize);
 }

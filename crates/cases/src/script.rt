@@ -2,35 +2,83 @@
 ghost use Prim.Native.Nat.{_≤_};
 ghost use lib.ListN.{length};
 
+// What a line asks for. A line that starts otherwise is only printed.
+pub enum Name {
+    Comment,
+    ReadRequest,
+    ReadMessage,
+    WriteRequest,
+    WriteMessage,
+    Make,
+    Spoil,
+    Deliver,
+    Step,
+    Clear,
+    Hear,
+    Vote,
+    Halts,
+}
+
 pub struct Scan {
-    // 1 read_request, 2 read_message, 3 write_request, 4 write_message, 0 none of these
-    pub name: u8,
     pub numbers: [u64; 64],
     pub count: usize,
     // Whether the last byte was a digit of a number.
     pub inside: bool,
 }
 
-fn name_of(line: &[u8]) -> u8 {
-    if line.len() < 7 {
-        return 0;
+// Of read_request, read_message, write_request, write_message.
+fn record_name(read: bool, request: bool) -> Name {
+    if read {
+        if request {
+            return Name::ReadRequest;
+        }
+        return Name::ReadMessage;
+    }
+    if request {
+        return Name::WriteRequest;
+    }
+    Name::WriteMessage
+}
+
+// Of the names that do not speak of records, by their first two letters.
+fn other_name(first: u8, second: u8) -> Name {
+    match first {
+        b'm' => Name::Make,
+        b'd' => Name::Deliver,
+        b'c' => Name::Clear,
+        b'v' => Name::Vote,
+        b's' => {
+            if second == b'p' {
+                return Name::Spoil;
+            }
+            Name::Step
+        }
+        b'h' => {
+            if second == b'e' {
+                return Name::Hear;
+            }
+            Name::Halts
+        }
+        _ => Name::Comment,
+    }
+}
+
+pub(crate) fn name_of(line: &[u8]) -> Name {
+    if line.len() < 2 {
+        return Name::Comment;
     }
     let first = line[0];
-    let read = line[5];
-    let write = line[6];
+    let second = line[1];
+    if line.len() < 7 {
+        return other_name(first, second);
+    }
     if first == b'r' {
-        if read == b'r' {
-            return 1;
-        }
-        return 2;
+        return record_name(true, line[5] == b'r');
     }
     if first == b'w' {
-        if write == b'r' {
-            return 3;
-        }
-        return 4;
+        return record_name(false, line[6] == b'r');
     }
-    0
+    other_name(first, second)
 }
 
 // x with one more decimal digit, or x where that does not fit.
@@ -49,40 +97,57 @@ fn with_digit(x: u64, digit: u64) -> u64 {
     x
 }
 
-fn with_byte(s: Scan, b: u8) -> Scan {
-    let mut next = s;
-    if b < b'0' {
-        next.inside = false;
-        return next;
-    }
-    if b'9' < b {
-        next.inside = false;
-        return next;
-    }
-    let digit = b - b'0';
+// One more digit of the number that stands last.
+fn longer(s: Scan, digit: u64) -> Scan {
     let count = s.count;
-    if s.inside {
-        if 0 < count {
-            if count <= 64 {
-                let at = count - 1;
-                let x = s.numbers[at];
-                next.numbers[at] = with_digit(x, digit as u64);
-            }
-        }
-        return next;
+    if count < 1 {
+        return s;
     }
-    if count < 64 {
-        next.numbers[count] = digit as u64;
-        next.count = count + 1;
-        next.inside = true;
+    if 64 < count {
+        return s;
     }
+    let at = count - 1;
+    let x = s.numbers[at];
+    let mut next = s;
+    next.numbers[at] = with_digit(x, digit);
     next
 }
 
+// A number that starts with a digit.
+fn started(s: Scan, digit: u64) -> Scan {
+    let count = s.count;
+    if 64 <= count {
+        return s;
+    }
+    let mut next = s;
+    next.numbers[count] = digit;
+    next.count = count + 1;
+    next.inside = true;
+    next
+}
+
+fn outside(s: Scan) -> Scan {
+    let mut next = s;
+    next.inside = false;
+    next
+}
+
+fn with_byte(s: Scan, b: u8) -> Scan {
+    if b < b'0' {
+        return outside(s);
+    }
+    if b'9' < b {
+        return outside(s);
+    }
+    let digit = (b - b'0') as u64;
+    if s.inside {
+        return longer(s, digit);
+    }
+    started(s, digit)
+}
+
 pub(crate) fn scan_line(line: &[u8]) -> Scan {
-    let name = name_of(line);
     let mut s = Scan {
-        name,
         numbers: [0u64; 64],
         count: 0,
         inside: false,
@@ -111,19 +176,23 @@ pub(crate) fn line_end(text: &[u8], at: usize) -> usize
 }
 
 impl Scan {
-    // Number i, as a byte.
-    pub(crate) fn byte(self, i: usize) -> u8 {
-        if 64 <= i {
-            return 0;
-        }
-        let x = self.numbers[i];
-        (x % 256) as u8
-    }
-
+    // Number i; 0 where the line has fewer.
     pub(crate) fn number(self, i: usize) -> u64 {
         if 64 <= i {
             return 0;
         }
         self.numbers[i]
+    }
+
+    pub(crate) fn byte(self, i: usize) -> u8 {
+        (self.number(i) % 256) as u8
+    }
+
+    pub(crate) fn short(self, i: usize) -> u16 {
+        (self.number(i) % 65536) as u16
+    }
+
+    pub(crate) fn word(self, i: usize) -> u32 {
+        (self.number(i) % 4294967296) as u32
     }
 }

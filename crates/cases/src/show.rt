@@ -28,7 +28,6 @@ pub(crate) fn request(r: Request) {
 }
 
 pub(crate) fn message(m: Message) {
-    io::write_all(1, b" -> accepted");
     byte(m.kind);
     byte(m.group);
     byte(m.process);
@@ -36,6 +35,11 @@ pub(crate) fn message(m: Message) {
     number(m.variable as u64);
     number(m.timestamp.0);
     number(m.value as u64);
+}
+
+pub(crate) fn accepted(m: Message) {
+    io::write_all(1, b" -> accepted");
+    message(m);
 }
 
 pub(crate) fn outcome(o: Outcome) {

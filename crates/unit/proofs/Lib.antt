@@ -1,4 +1,4 @@
-pub mod Bytes
+pub mod Lists
 pub mod Places
 pub mod Lines
 pub mod Whole

@@ -1,5 +1,5 @@
 -- How many decimal digits a number has: as many as `io::decimal` writes. Assumes nothing.
-use Prim.Native.Nat.{ℕ, zero, suc, _+_, _-_, _^_, _≤_, _<_}
+use Prim.Native.Nat.{ℕ, _+_, _-_, _^_, _≤_, _<_}
 use mathlib.Core.Path.{_≡_, refl, ap, _∙_}
 use mathlib.Core.Bool.{Bool, true, false}
 use lib.Dec.{leb}
@@ -9,21 +9,7 @@ use borrow.Author.Tests.{leb-true, leb-false, le-leb, lt-leb}
 use Rattle.io.specs.Digits.{Fewest}
 use Rattle.rules.specs.Lists.{tally}
 use Rattle.unit.specs.Text.{places}
-
--- where all pass, all are counted
-tally-all : (test : ℕ → Bool) (m : ℕ) → ((i : ℕ) → 0 < i → i ≤ m → test i ≡ true) → tally test m ≡ m
-tally-all test zero pass = refl
-tally-all test (suc m) pass =
-    rw (pass (suc m) (omega arith) (omega arith)) (ap suc (tally-all test m (λ i low high. pass i low (omega arith))))
-
--- where those up to j pass and none of the later ones, j are counted
-tally-upto : (test : ℕ → Bool) (j : ℕ) → ((i : ℕ) → 0 < i → i ≤ j → test i ≡ true) →
-    ((i : ℕ) → j < i → test i ≡ false) → (later m : ℕ) → m ≡ later + j → tally test m ≡ j
-tally-upto test j pass fail zero m e =
-    let e : m ≡ j = omega arith in rw e (tally-all test j pass)
-tally-upto test j pass fail (suc later) zero e = omega arith
-tally-upto test j pass fail (suc later) (suc m) e =
-    rw (fail (suc m) (omega arith)) (tally-upto test j pass fail later m (omega arith))
+use Rattle.unit.proofs.Lists.{tally-upto}
 
 -- ten to the power of more is more
 grows : (i j : ℕ) → i ≤ j → 10 ^ i ≤ 10 ^ j

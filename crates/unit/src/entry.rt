@@ -1,7 +1,7 @@
 // What a 40-byte record of the journal means.
 ghost use mathlib.Core.Path.{_≡_};
 ghost use mathlib.Core.List.{[], _∷_};
-ghost use Prim.Native.Nat.{_+_, _≤_};
+ghost use Prim.Native.Nat.{_+_, _≤_, _<_};
 ghost use lib.Dec.{eqb};
 ghost use lib.ListN.{length};
 ghost use Rattle.question.specs.Question.{_else_, given, worked, ask, outcome};
@@ -67,7 +67,8 @@ fn time_in(bytes: &[u8]) -> u64
 }
 
 fn wide(x: u8) -> u64
-    ensures { λ r. ⌜ r ≡ x ⌝ }
+    ensures same { λ r. ⌜ r ≡ x ⌝ }
+    ensures below { λ r. ⌜ r < 256 ⌝ }
 {
     x as u64
 }

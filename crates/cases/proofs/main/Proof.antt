@@ -6,16 +6,22 @@ use Rattle.cases.proofs.main.Statement.{statement}
 use Rattle.cases.proofs.main.Tie as tie
 
 abbrev Inv-loop : tie.InvT-loop
-Inv-loop text filled at₀ at = (filled ≤ 65536) × (at ≤ 65537) × (length text ≡ 65536)
+Inv-loop text filled session₀ at₀ session at = (filled ≤ 131072) × (at ≤ 131073) × (length text ≡ 131072)
 
 abbrev μ-loop : tie.MeasureT-loop
-μ-loop text filled at₀ at = 65537 - at
+μ-loop text filled session₀ at₀ session at = 131073 - at
 
 slice-aggregate-read-full : tie.Need-slice-aggregate-read-full Inv-loop μ-loop
 slice-aggregate-read-full c = search needs
 
 read-full-requires : tie.Need-read-full-requires Inv-loop μ-loop
 read-full-requires c κs = search needs
+
+make-requires : tie.Need-make-requires Inv-loop μ-loop
+make-requires c κs = search needs
+
+none-requires : tie.Need-none-requires Inv-loop μ-loop
+none-requires c κs = search needs
 
 loop-holds : tie.Need-loop-holds Inv-loop μ-loop
 loop-holds c = search needs
@@ -58,6 +64,8 @@ main-spec =
     μ-loop
     slice-aggregate-read-full
     read-full-requires
+    make-requires
+    none-requires
     loop-holds
     slice-aggregate-line-end
     line-end-requires

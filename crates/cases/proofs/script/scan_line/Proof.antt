@@ -5,13 +5,10 @@ use Rattle.cases.proofs.script.scan_line.Statement.{statement}
 use Rattle.cases.proofs.script.scan_line.Tie as tie
 
 abbrev Inv-loop : tie.InvT-loop
-Inv-loop line name s₀ i₀ s i = i ≤ length line
+Inv-loop line s₀ i₀ s i = i ≤ length line
 
 abbrev μ-loop : tie.MeasureT-loop
-μ-loop line name s₀ i₀ s i = length line - i
-
-name-of-requires : tie.Need-name-of-requires Inv-loop μ-loop
-name-of-requires c κs = search needs
+μ-loop line s₀ i₀ s i = length line - i
 
 loop-holds : tie.Need-loop-holds Inv-loop μ-loop
 loop-holds c = search needs
@@ -40,7 +37,6 @@ scan-line-spec =
     (tie.spec
     Inv-loop
     μ-loop
-    name-of-requires
     loop-holds
     shared-slice-read-with-byte
     with-byte-requires

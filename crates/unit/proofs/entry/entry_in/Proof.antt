@@ -1,4 +1,4 @@
-use mathlib.Core.Path.{_≡_, refl}
+-- The kind decides between the two.
 use lib.ListN.{getD}
 use borrow.Author.Tests.{eq-eqb, ne-eqb}
 use borrow.Author.Needs.{needs}

@@ -1,5 +1,5 @@
 -- The loop's invariant: the flag says whether the first i bytes of the part are zero.
-use Prim.Native.Nat.{_+_, _-_, _≤_, _<_}
+use Prim.Native.Nat.{_-_, _≤_, _<_}
 use mathlib.Core.Path.{_≡_, refl}
 use lib.ListN.{length, drop, length-drop}
 use lib.Seq.{take-suc, getD-drop}
@@ -7,7 +7,7 @@ use native.Mathlib.Numerals.{add-one}
 use native.Mathlib.Omega.{arith}
 use borrow.Author.Needs.{needs}
 use Rattle.unit.specs.Entry.{zeroFrom}
-use Rattle.unit.proofs.Bytes.{every-snoc}
+use Rattle.unit.proofs.Lists.{every-snoc}
 use Rattle.unit.proofs.entry.is_zero_from.Statement.{statement}
 use Rattle.unit.proofs.entry.is_zero_from.Tie as tie
 

@@ -1,3 +1,4 @@
+-- Each field is what stands at its place.
 use borrow.Author.Needs.{needs}
 use Rattle.unit.proofs.entry.setup_in.Statement.{statement}
 use Rattle.unit.proofs.entry.setup_in.Tie as tie

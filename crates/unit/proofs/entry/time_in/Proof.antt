@@ -1,5 +1,5 @@
 -- The loop's invariant: x is the number of the first i bytes, and below 256 ^ i.
-use Prim.Native.Nat.{ℕ, _+_, _-_, _^_, _≤_, _<_}
+use Prim.Native.Nat.{ℕ, _-_, _^_, _≤_, _<_}
 use mathlib.Core.Path.{_≡_, refl}
 use lib.ListN.{length, drop, length-drop}
 use lib.Seq.{take-suc, getD-drop}
@@ -40,9 +40,7 @@ wide-requires : tie.Need-wide-requires Inv-loop μ-loop
 wide-requires c κs = search needs
 
 add-x : tie.Need-add-x Inv-loop μ-loop
-add-x c =
-    let i = c .before .before .before .loop .i in
-    omega (arith, small i (omega arith), c .wide .ensures, c .before .shared-slice-known2 .given (8 + i))
+add-x c = omega (arith, small (c .before .before .before .loop .i) (omega arith))
 
 add-i : tie.Need-add-i Inv-loop μ-loop
 add-i c = search needs
@@ -58,9 +56,8 @@ loop-again c =
     let here : i < length (drop 8 bytes) = simp length-drop (omega arith) in (
       omega arith,
       (
-        rw (add-one i, take-suc (drop 8 bytes) i 0 here, number-snoc, getD-drop 8 bytes i 0) (cc),
-        rw (add-one i, pow-suc 256 i)
-            (omega (arith, c .wide .ensures, c .before .shared-slice-known2 .given (8 + i))),
+        rw (add-one i, take-suc (drop 8 bytes) i 0 here, number-snoc, getD-drop 8 bytes i 0, at-loop .loop .inv .1 .0, c .wide .ensures .0),
+        rw (add-one i, pow-suc 256 i) (omega arith),
       ),
     )
 

@@ -1,3 +1,4 @@
+-- Each call adds its part.
 use lib.ListN.{getD}
 use Rattle.unit.proofs.Lines.{begun, more, ended}
 use borrow.Author.Needs.{needs}

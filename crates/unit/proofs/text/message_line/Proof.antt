@@ -1,4 +1,4 @@
-use mathlib.Core.Path.{_≡_}
+-- The kind decides between the two; each call adds its part.
 use borrow.Author.Tests.{eq-eqb, ne-eqb}
 use Rattle.record.specs.Record.{reply}
 use Rattle.unit.specs.Text.{replyWord, haltWord, firstFour, textOf}

@@ -1,3 +1,4 @@
+-- Each call adds one number.
 use native.Mathlib.Omega.{arith}
 use mathlib.Core.Path.{refl}
 use Rattle.unit.specs.Text.{textOf}

@@ -1,3 +1,4 @@
+-- The digits that are counted are those of the definition.
 use Prim.Native.Nat.{_-_, _≤_}
 use mathlib.Core.List.{[], _∷_, append-assoc}
 use lib.ListN.{length, take}

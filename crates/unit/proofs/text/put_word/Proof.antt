@@ -1,5 +1,5 @@
 -- The loop's invariant: the text so far, with the first i bytes of the word after it.
-use Prim.Native.Nat.{suc, _+_, _-_, _≤_, _<_}
+use Prim.Native.Nat.{suc, _+_, _-_, _≤_}
 use mathlib.Core.Path.{_≡_, ap}
 use mathlib.Core.List.{_++_, append-assoc, append-nil}
 use lib.ListN.{length, take, length-set}

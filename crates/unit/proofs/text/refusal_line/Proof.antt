@@ -1,3 +1,4 @@
+-- Each call adds its part.
 use Rattle.unit.proofs.Lines.{begun, more, ended}
 use borrow.Author.Needs.{needs}
 use Rattle.unit.proofs.text.refusal_line.Statement.{statement}

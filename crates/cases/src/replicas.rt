@@ -49,7 +49,8 @@ fn deliver_in(r: Replica, at: LocalTime, b: &[u8], length: usize) -> Replica {
     }
     let d = replica::deliver(r, &b[0..length], at);
     let after = d.replica;
-    crate::show::outcome(d.outcome);
+    let outcome = d.outcome;
+    crate::show::outcome(outcome);
     show_replica(after);
     after
 }

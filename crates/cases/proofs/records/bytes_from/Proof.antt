@@ -1,22 +1,19 @@
 use Prim.Native.Nat.{_≤_, _-_}
 use borrow.Author.Needs.{needs}
-use Rattle.cases.proofs.records.given_bytes.Statement.{statement}
-use Rattle.cases.proofs.records.given_bytes.Tie as tie
+use Rattle.cases.proofs.records.bytes_from.Statement.{statement}
+use Rattle.cases.proofs.records.bytes_from.Tie as tie
 
 abbrev Inv-loop : tie.InvT-loop
-Inv-loop s b₀ i₀ b i = i ≤ 62
+Inv-loop s from b₀ i₀ b i = i ≤ 62
 
 abbrev μ-loop : tie.MeasureT-loop
-μ-loop s b₀ i₀ b i = 62 - i
+μ-loop s from b₀ i₀ b i = 62 - i
 
 loop-holds : tie.Need-loop-holds Inv-loop μ-loop
 loop-holds c = search needs
 
-add-byte : tie.Need-add-byte Inv-loop μ-loop
-add-byte c = search needs
-
-byte-requires : tie.Need-byte-requires Inv-loop μ-loop
-byte-requires c κs = search needs
+byte-at-requires : tie.Need-byte-at-requires Inv-loop μ-loop
+byte-at-requires c κs = search needs
 
 array-write-b : tie.Need-array-write-b Inv-loop μ-loop
 array-write-b c = search needs
@@ -33,15 +30,14 @@ loop-again c = search needs
 returns : tie.Need-returns Inv-loop μ-loop
 returns c = search needs
 
-pub given-bytes-spec : {M : Type 1} → statement M
-given-bytes-spec =
+pub bytes-from-spec : {M : Type 1} → statement M
+bytes-from-spec =
     tie.close
     (tie.spec
     Inv-loop
     μ-loop
     loop-holds
-    add-byte
-    byte-requires
+    byte-at-requires
     array-write-b
     add-i
     loop-less
