@@ -15,7 +15,7 @@ use script::Scan;
 use votes::Heard;
 
 // What is kept from line to line.
-pub struct Session {
+pub struct Kept {
     pub replica: Replica,
     pub heard: Heard,
 }
@@ -56,17 +56,17 @@ fn run_vote(name: Name, s: Scan, h: Heard) -> Heard {
     }
 }
 
-fn run_line(line: &[u8], session: Session) -> Session {
+fn run_line(line: &[u8], kept: Kept) -> Kept {
     io::write_all(1, line);
     let name = script::name_of(line);
     let s = script::scan_line(line);
-    let r = session.replica;
-    let h = session.heard;
+    let r = kept.replica;
+    let h = kept.heard;
     run_record(name, s);
     let replica = run_replica(name, s, r);
     let heard = run_vote(name, s, h);
     io::write_all(1, b"\n");
-    Session { replica, heard }
+    Kept { replica, heard }
 }
 
 fn main() {
@@ -75,12 +75,12 @@ fn main() {
     let made = replica::make(0, 1, 1, 0, 1);
     let replica = made.replica;
     let heard = votes::none();
-    let mut session = Session { replica, heard };
+    let mut kept = Kept { replica, heard };
     let mut at: usize = 0;
     while at < filled {
         let end = script::line_end(&text, at);
         if at < end {
-            session = run_line(&text[at..end], session);
+            kept = run_line(&text[at..end], kept);
         }
         at = end + 1;
     }

@@ -6,10 +6,10 @@ use Rattle.cases.proofs.main.Statement.{statement}
 use Rattle.cases.proofs.main.Tie as tie
 
 abbrev Inv-loop : tie.InvT-loop
-Inv-loop text filled session₀ at₀ session at = (filled ≤ 131072) × (at ≤ 131073) × (length text ≡ 131072)
+Inv-loop text filled kept₀ at₀ kept at = (filled ≤ 131072) × (at ≤ 131073) × (length text ≡ 131072)
 
 abbrev μ-loop : tie.MeasureT-loop
-μ-loop text filled session₀ at₀ session at = 131073 - at
+μ-loop text filled kept₀ at₀ kept at = 131073 - at
 
 slice-aggregate-read-full : tie.Need-slice-aggregate-read-full Inv-loop μ-loop
 slice-aggregate-read-full c = search needs
