@@ -1,6 +1,6 @@
 // Runs the cases of document 01 that are to be executed: a script from standard input, a case a line.
 // Each line is printed again with what the call answered. The expected text was worked out by a
-// separate program written from document 01 alone.
+// separate program; docs/DECISIONS.md says from what.
 mod records;
 mod replicas;
 mod script;
