@@ -8,12 +8,12 @@ use lib.Dec.{eqb, ltb}
 use lib.ListN.{length}
 use Rattle.question.specs.Question.{given}
 use Rattle.record.specs.Number.{Bytes}
-use Rattle.record.specs.Record.{reply, halt}
+use Rattle.record.specs.Record.{halt}
 use Rattle.record.specs.declared.clock.Timestamp.{Timestamp}
 use Rattle.record.specs.declared.request.Request.{Request}
 use Rattle.record.specs.declared.message.Message.{Message}
 use Rattle.rules.specs.Lists.{keep, some}
-use Rattle.rules.specs.Batch.{Settings, Store, valueOf, failed, allReads}
+use Rattle.rules.specs.Batch.{Settings, Store, valueOf, failed, allReads, replyWith}
 use Rattle.rules.specs.Replica.{make, newState, stamped, requestsOf}
 use Rattle.rules.specs.Run.{Call, delivery, turn, run}
 use Rattle.rules.specs.Machine.{machine, signedBy}
@@ -46,17 +46,6 @@ valueAt k owner bag t variable = valueOf variable (machine k owner (keep (λ r. 
 -- the read's timestamp has no write
 abbrev pub Unmixed : List Request → Request → Type 0
 Unmixed bag r = allReads (keep (stamped (r .timestamp)) bag) ≡ true
-
-abbrev pub replyWith : ℕ → ℕ → Request → Message
-replyWith value replica r = record {
-  kind = reply;
-  group = r .group;
-  process = r .process;
-  replica = replica;
-  variable = r .variable;
-  timestamp = r .timestamp;
-  value = value;
-}
 
 abbrev pub queryOf : Request → Query
 queryOf r = record { group = r .group; process = r .process; variable = r .variable; timestamp = r .timestamp }

@@ -4,4 +4,6 @@ pub mod Replica
 pub mod Run
 pub mod Machine
 pub mod Vote
+pub mod Sample
 pub mod Examples
+pub mod Units
