@@ -1,11 +1,11 @@
 // Cases of the vote. hear: a message, put behind those that were heard. clear: none is heard.
 // vote: k, N, group, process, variable, timestamp. halts: k, N, group, process.
 use crate::script::Scan;
+use ballot::HaltAnswer;
+use ballot::VoteAnswer;
 use record::Message;
 use record::Timestamp;
 use rules::Query;
-use vote::HaltAnswer;
-use vote::VoteAnswer;
 
 pub struct Heard {
     pub list: [Message; 65],

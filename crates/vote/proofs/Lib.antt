@@ -1,4 +1,1 @@
-pub mod Numbers
-pub mod Heard
-pub mod Answers
 pub mod Tallied

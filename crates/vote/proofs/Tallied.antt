@@ -28,8 +28,8 @@ use Rattle.record.proofs.message.Message as T
 use Rattle.rules.specs.declared.Query.{Query}
 use Rattle.rules.proofs.Query as Q
 use Rattle.rules.proofs.Query.Laws as Q′
-use Rattle.vote.specs.Ballot.{ballotOf}
-use Rattle.vote.specs.declared.ballot.Ballot.{Ballot}
+use Rattle.ballot.specs.Ballot.{ballotOf}
+use Rattle.ballot.specs.declared.ballot.Ballot.{Ballot}
 use Rattle.vote.proofs.tally.tally as tally
 
 module _ {M : Type 1} (𝓤 : URA M) (H : Heap 𝓤) (A : Atoms 𝓤) (mem : Memory → SProp 𝓤) (run : Routine → Fun 𝓤) where

@@ -41,16 +41,16 @@ use Rattle.rules.specs.Vote.{haltCount}
 use Rattle.rules.specs.declared.Query.{Query}
 use Rattle.rules.proofs.Query as Q
 use Rattle.rules.proofs.Query.Laws as Q′
-use Rattle.vote.specs.Answers.{haltAnswer}
-use Rattle.vote.specs.Ballot.{haltQuery, ballotOf, haltCountIn, askBallot}
-use Rattle.vote.specs.declared.ballot.Ballot.{Ballot}
-use Rattle.vote.specs.declared.count.HaltAnswer.{HaltAnswer}
-use Rattle.vote.proofs.Answers.{ballot-halt-count}
+use Rattle.ballot.specs.Answers.{haltAnswer}
+use Rattle.ballot.specs.Ballot.{haltQuery, ballotOf, haltCountIn, askBallot}
+use Rattle.ballot.specs.declared.ballot.Ballot.{Ballot}
+use Rattle.ballot.specs.declared.count.HaltAnswer.{HaltAnswer}
+use Rattle.ballot.proofs.Answers.{ballot-halt-count}
 use Rattle.vote.proofs.Tallied.{TallyC, ulist, Own, to-tally, tally-asked, tally-said}
-use Rattle.vote.proofs.ballot.Ballot as B
-use Rattle.vote.proofs.ballot.Ballot.Laws as B′
-use Rattle.vote.proofs.count.HaltAnswer as R
-use Rattle.vote.proofs.count.HaltAnswer.Laws as R′
+use Rattle.ballot.proofs.ballot.Ballot as B
+use Rattle.ballot.proofs.ballot.Ballot.Laws as B′
+use Rattle.ballot.proofs.count.HaltAnswer as R
+use Rattle.ballot.proofs.count.HaltAnswer.Laws as R′
 use Rattle.vote.proofs.tally.tally as tally
 use Rattle.vote.proofs.tally.tally.Symbol as tally-def
 use Rattle.vote.proofs.tally.tally.Symbol.{name as #tally}
@@ -59,10 +59,10 @@ use Rattle.vote.proofs.tally.halt_query as query
 use Rattle.vote.proofs.tally.halt_query.Symbol as query-def
 use Rattle.vote.proofs.tally.halt_query.Symbol.{name as #halt-query}
 use Rattle.vote.proofs.tally.halt_query.Met as query-thm
-use Rattle.vote.proofs.count.answer_halts as answer
-use Rattle.vote.proofs.count.answer_halts.Symbol as answer-def
-use Rattle.vote.proofs.count.answer_halts.Symbol.{name as #answer-halts}
-use Rattle.vote.proofs.count.answer_halts.Met as answer-thm
+use Rattle.ballot.proofs.answer_halts as answer
+use Rattle.ballot.proofs.answer_halts.Symbol as answer-def
+use Rattle.ballot.proofs.answer_halts.Symbol.{name as #answer-halts}
+use Rattle.ballot.proofs.answer_halts.Met as answer-thm
 use Rattle.vote.proofs.tally.count_halts.Key.{name as #count-halts}
 use Rattle.vote.proofs.tally.count_halts as f
 use Rattle.vote.proofs.tally.count_halts.Statement as stated
@@ -187,4 +187,4 @@ count-halts-spec 𝓤 H 𝓜 𝓖 𝓡 =
     (count-halts-meets 𝓤 H (𝓖 .A) (givenOf 𝓤 H 𝓜 𝓖) (𝓜 .mem) (𝓡 .run) (tablesOf 𝓤 H 𝓜 (tables 𝓤 H 𝓜 𝓡 code.env))
     (cited 𝓤 H (QueryC 𝓤 H (𝓖 .A) (𝓜 .mem) (𝓡 .run)) 𝓜 𝓡 code.env #halt-query query-def.routine code.calls-vote·tally·halt-query (query-thm.met 𝓤 H 𝓜 𝓖 𝓡))
     (cited 𝓤 H (TallyC 𝓤 H (𝓖 .A) (𝓜 .mem) (𝓡 .run)) 𝓜 𝓡 code.env #tally tally-def.routine code.calls-vote·tally·tally (tally-thm.met 𝓤 H 𝓜 𝓖 𝓡))
-    (cited 𝓤 H (AnswerC 𝓤 H (𝓖 .A) (𝓜 .mem) (𝓡 .run)) 𝓜 𝓡 code.env #answer-halts answer-def.routine code.calls-vote·count·answer-halts (answer-thm.met 𝓤 H 𝓜 𝓖 𝓡)))
+    (cited 𝓤 H (AnswerC 𝓤 H (𝓖 .A) (𝓜 .mem) (𝓡 .run)) 𝓜 𝓡 code.env #answer-halts answer-def.routine code.calls-ballot·answer-halts (answer-thm.met 𝓤 H 𝓜 𝓖 𝓡)))

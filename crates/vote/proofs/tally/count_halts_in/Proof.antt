@@ -1,7 +1,7 @@
 use mathlib.Core.Path.{_∙_}
 use lib.ListN.{take}
-use Rattle.vote.specs.Ballot.{haltQuery}
-use Rattle.vote.proofs.Answers.{ballot-halt-count}
+use Rattle.ballot.specs.Ballot.{haltQuery}
+use Rattle.ballot.proofs.Answers.{ballot-halt-count}
 use borrow.Author.Needs.{needs}
 use Rattle.vote.proofs.tally.count_halts_in.Statement.{statement}
 use Rattle.vote.proofs.tally.count_halts_in.Tie as tie

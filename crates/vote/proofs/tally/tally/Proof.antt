@@ -56,19 +56,19 @@ use Rattle.record.proofs.clock.Timestamp.Laws as S′
 use Rattle.rules.specs.declared.Query.{Query}
 use Rattle.rules.proofs.Query as Q
 use Rattle.rules.proofs.Query.Laws as Q′
-use Rattle.vote.specs.Ballot.{newBallot, hear as hearOf, hearAll, ballotOf}
-use Rattle.vote.specs.declared.ballot.Ballot.{Ballot}
-use Rattle.vote.proofs.Heard.{hear-on, hear-end}
-use Rattle.vote.proofs.ballot.Ballot as B
-use Rattle.vote.proofs.ballot.Ballot.Laws as B′
-use Rattle.vote.proofs.ballot.new_ballot as new
-use Rattle.vote.proofs.ballot.new_ballot.Symbol as new-def
-use Rattle.vote.proofs.ballot.new_ballot.Symbol.{name as #new-ballot}
-use Rattle.vote.proofs.ballot.new_ballot.Met as new-thm
-use Rattle.vote.proofs.ballot.hear as hear
-use Rattle.vote.proofs.ballot.hear.Symbol as hear-def
-use Rattle.vote.proofs.ballot.hear.Symbol.{name as #hear}
-use Rattle.vote.proofs.ballot.hear.Met as hear-thm
+use Rattle.ballot.specs.Ballot.{newBallot, hear as hearOf, hearAll, ballotOf}
+use Rattle.ballot.specs.declared.ballot.Ballot.{Ballot}
+use Rattle.ballot.proofs.Heard.{hear-on, hear-end}
+use Rattle.ballot.proofs.ballot.Ballot as B
+use Rattle.ballot.proofs.ballot.Ballot.Laws as B′
+use Rattle.ballot.proofs.new_ballot as new
+use Rattle.ballot.proofs.new_ballot.Symbol as new-def
+use Rattle.ballot.proofs.new_ballot.Symbol.{name as #new-ballot}
+use Rattle.ballot.proofs.new_ballot.Met as new-thm
+use Rattle.ballot.proofs.hear as hear
+use Rattle.ballot.proofs.hear.Symbol as hear-def
+use Rattle.ballot.proofs.hear.Symbol.{name as #hear}
+use Rattle.ballot.proofs.hear.Met as hear-thm
 use Rattle.vote.proofs.tally.tally.Key.{name as #tally}
 use Rattle.vote.proofs.tally.tally as f
 use Rattle.vote.proofs.tally.tally.Statement as stated
@@ -356,5 +356,5 @@ tally-spec 𝓤 H 𝓜 𝓖 𝓡 =
     entered 𝓤 H (tripleOf 𝓤 H (𝓖 .A) f.signature (f.spec 𝓤 H (𝓖 .A) (𝓜 .mem) (𝓡 .run)))
     (tables 𝓤 H 𝓜 𝓡 code.env .C) (tables 𝓤 H 𝓜 𝓡 code.env .Λ) #tally code.function (code.unfolded 𝓤 H 𝓜 𝓡)
     (tally-meets 𝓤 H (𝓖 .A) (givenOf 𝓤 H 𝓜 𝓖) (𝓜 .mem) (𝓡 .run) (tablesOf 𝓤 H 𝓜 (tables 𝓤 H 𝓜 𝓡 code.env))
-    (cited 𝓤 H (NewC 𝓤 H (𝓖 .A) (𝓜 .mem) (𝓡 .run)) 𝓜 𝓡 code.env #new-ballot new-def.routine code.calls-vote·ballot·new-ballot (new-thm.met 𝓤 H 𝓜 𝓖 𝓡))
-    (cited 𝓤 H (HearC 𝓤 H (𝓖 .A) (𝓜 .mem) (𝓡 .run)) 𝓜 𝓡 code.env #hear hear-def.routine code.calls-vote·ballot·hear (hear-thm.met 𝓤 H 𝓜 𝓖 𝓡)))
+    (cited 𝓤 H (NewC 𝓤 H (𝓖 .A) (𝓜 .mem) (𝓡 .run)) 𝓜 𝓡 code.env #new-ballot new-def.routine code.calls-ballot·new-ballot (new-thm.met 𝓤 H 𝓜 𝓖 𝓡))
+    (cited 𝓤 H (HearC 𝓤 H (𝓖 .A) (𝓜 .mem) (𝓡 .run)) 𝓜 𝓡 code.env #hear hear-def.routine code.calls-ballot·hear (hear-thm.met 𝓤 H 𝓜 𝓖 𝓡)))

@@ -55,11 +55,11 @@ use Rattle.rules.specs.declared.Query.{Query}
 use Rattle.rules.proofs.Query as Q
 use Rattle.rules.proofs.Query.Laws as Q′
 use Rattle.laws.proofs.Lists.{case}
-use Rattle.vote.specs.Ballot.{ballotOf}
-use Rattle.vote.specs.declared.ballot.Ballot.{Ballot}
+use Rattle.ballot.specs.Ballot.{ballotOf}
+use Rattle.ballot.specs.declared.ballot.Ballot.{Ballot}
 use Rattle.vote.proofs.Tallied.{TallyC, Own, to-tally, tally-asked, tally-said}
-use Rattle.vote.proofs.ballot.Ballot as B
-use Rattle.vote.proofs.ballot.Ballot.Laws as B′
+use Rattle.ballot.proofs.ballot.Ballot as B
+use Rattle.ballot.proofs.ballot.Ballot.Laws as B′
 use Rattle.vote.proofs.tally.listed as listed
 use Rattle.vote.proofs.tally.listed.Symbol as listed-def
 use Rattle.vote.proofs.tally.listed.Symbol.{name as #listed}

@@ -40,24 +40,24 @@ use Rattle.rules.specs.Vote.{vote}
 use Rattle.rules.specs.declared.Query.{Query}
 use Rattle.rules.proofs.Query as Q
 use Rattle.rules.proofs.Query.Laws as Q′
-use Rattle.vote.specs.Answers.{voteAnswer}
-use Rattle.vote.specs.Ballot.{ballotOf, electIn, askBallot}
-use Rattle.vote.specs.declared.ballot.Ballot.{Ballot}
-use Rattle.vote.specs.declared.count.VoteAnswer.{VoteAnswer}
-use Rattle.vote.proofs.Answers.{ballot-vote}
+use Rattle.ballot.specs.Answers.{voteAnswer}
+use Rattle.ballot.specs.Ballot.{ballotOf, electIn, askBallot}
+use Rattle.ballot.specs.declared.ballot.Ballot.{Ballot}
+use Rattle.ballot.specs.declared.count.VoteAnswer.{VoteAnswer}
+use Rattle.ballot.proofs.Answers.{ballot-vote}
 use Rattle.vote.proofs.Tallied.{TallyC, ulist, Own, to-tally, tally-asked, tally-said}
-use Rattle.vote.proofs.ballot.Ballot as B
-use Rattle.vote.proofs.ballot.Ballot.Laws as B′
-use Rattle.vote.proofs.count.VoteAnswer as R
-use Rattle.vote.proofs.count.VoteAnswer.Laws as R′
+use Rattle.ballot.proofs.ballot.Ballot as B
+use Rattle.ballot.proofs.ballot.Ballot.Laws as B′
+use Rattle.ballot.proofs.count.VoteAnswer as R
+use Rattle.ballot.proofs.count.VoteAnswer.Laws as R′
 use Rattle.vote.proofs.tally.tally as tally
 use Rattle.vote.proofs.tally.tally.Symbol as tally-def
 use Rattle.vote.proofs.tally.tally.Symbol.{name as #tally}
 use Rattle.vote.proofs.tally.tally.Met as tally-thm
-use Rattle.vote.proofs.count.answer_vote as answer
-use Rattle.vote.proofs.count.answer_vote.Symbol as answer-def
-use Rattle.vote.proofs.count.answer_vote.Symbol.{name as #answer-vote}
-use Rattle.vote.proofs.count.answer_vote.Met as answer-thm
+use Rattle.ballot.proofs.answer_vote as answer
+use Rattle.ballot.proofs.answer_vote.Symbol as answer-def
+use Rattle.ballot.proofs.answer_vote.Symbol.{name as #answer-vote}
+use Rattle.ballot.proofs.answer_vote.Met as answer-thm
 use Rattle.vote.proofs.tally.vote.Key.{name as #vote}
 use Rattle.vote.proofs.tally.vote as f
 use Rattle.vote.proofs.tally.vote.Statement as stated
@@ -155,4 +155,4 @@ vote-spec 𝓤 H 𝓜 𝓖 𝓡 =
     (tables 𝓤 H 𝓜 𝓡 code.env .C) (tables 𝓤 H 𝓜 𝓡 code.env .Λ) #vote code.function (code.unfolded 𝓤 H 𝓜 𝓡)
     (vote-meets 𝓤 H (𝓖 .A) (givenOf 𝓤 H 𝓜 𝓖) (𝓜 .mem) (𝓡 .run) (tablesOf 𝓤 H 𝓜 (tables 𝓤 H 𝓜 𝓡 code.env))
     (cited 𝓤 H (TallyC 𝓤 H (𝓖 .A) (𝓜 .mem) (𝓡 .run)) 𝓜 𝓡 code.env #tally tally-def.routine code.calls-vote·tally·tally (tally-thm.met 𝓤 H 𝓜 𝓖 𝓡))
-    (cited 𝓤 H (AnswerC 𝓤 H (𝓖 .A) (𝓜 .mem) (𝓡 .run)) 𝓜 𝓡 code.env #answer-vote answer-def.routine code.calls-vote·count·answer-vote (answer-thm.met 𝓤 H 𝓜 𝓖 𝓡)))
+    (cited 𝓤 H (AnswerC 𝓤 H (𝓖 .A) (𝓜 .mem) (𝓡 .run)) 𝓜 𝓡 code.env #answer-vote answer-def.routine code.calls-ballot·answer-vote (answer-thm.met 𝓤 H 𝓜 𝓖 𝓡)))

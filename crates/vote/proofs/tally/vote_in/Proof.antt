@@ -1,6 +1,6 @@
 use mathlib.Core.Path.{_∙_}
 use lib.ListN.{take}
-use Rattle.vote.proofs.Answers.{ballot-vote}
+use Rattle.ballot.proofs.Answers.{ballot-vote}
 use borrow.Author.Needs.{needs}
 use Rattle.vote.proofs.tally.vote_in.Statement.{statement}
 use Rattle.vote.proofs.tally.vote_in.Tie as tie

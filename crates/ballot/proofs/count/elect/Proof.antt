@@ -1,0 +1,73 @@
+-- The loop's invariant: the election among the first i replicas is that among all, for none past i wins.
+use Rattle.ballot.specs.Ballot.{electIn}
+use mathlib.Core.Path.{sym, _∙_}
+use native.Mathlib.Omega.{arith}
+use Rattle.ballot.proofs.Answers.{elect-hit, elect-miss, elect-end}
+use Prim.Native.Nat.{_≤_}
+use mathlib.Core.Path.{_≡_}
+use borrow.Author.Needs.{needs}
+use Rattle.ballot.proofs.count.elect.Statement.{statement}
+use Rattle.ballot.proofs.count.elect.Tie as tie
+
+abbrev Inv-loop : tie.InvT-loop
+Inv-loop k b enough i₀ i = (i ≤ 7) × (electIn k b i ≡ electIn k b 7)
+
+abbrev μ-loop : tie.MeasureT-loop
+μ-loop k b enough i₀ i = i
+
+add-enough : tie.Need-add-enough Inv-loop μ-loop
+add-enough c = search needs
+
+loop-holds : tie.Need-loop-holds Inv-loop μ-loop
+loop-holds c = search needs
+
+mul-value : tie.Need-mul-value Inv-loop μ-loop
+mul-value c = search needs
+
+element-copy-out-value : tie.Need-element-copy-out-value Inv-loop μ-loop
+element-copy-out-value c = search needs
+
+element-copy-out-if1 : tie.Need-element-copy-out-if1 Inv-loop μ-loop
+element-copy-out-if1 c = search needs
+
+support-requires : tie.Need-support-requires Inv-loop μ-loop
+support-requires c κs = search needs
+
+returns : tie.Need-returns Inv-loop μ-loop
+returns c =
+    let b = c .before .before .before .before .before in
+    sym (elect-hit (b .before .args .k) (b .before .args .t2) (b .loop .i) (omega arith) (rw (c .before .support .ensures) at (c .if1 .taken))) ∙ b .loop .inv .1
+
+sub-i : tie.Need-sub-i Inv-loop μ-loop
+sub-i c = search needs
+
+loop-less : tie.Need-loop-less Inv-loop μ-loop
+loop-less c = search needs
+
+loop-again : tie.Need-loop-again Inv-loop μ-loop
+loop-again c =
+    let b = c .before .before .before .before .before in
+    (search needs, sym (elect-miss (b .before .args .k) (b .before .args .t2) (b .loop .i) (omega arith) (rw (c .before .support .ensures) at (c .if1 .left))) ∙ b .loop .inv .1)
+
+returns-2 : tie.Need-returns-2 Inv-loop μ-loop
+returns-2 c =
+    let b = c .before in
+    sym (elect-end (b .before .args .k) (b .before .args .t2) (b .loop .i) (omega arith)) ∙ b .loop .inv .1
+
+pub elect-spec : {M : Type 1} → statement M
+elect-spec =
+    tie.close
+    (tie.spec
+    Inv-loop
+    μ-loop
+    add-enough
+    loop-holds
+    mul-value
+    element-copy-out-value
+    element-copy-out-if1
+    support-requires
+    returns
+    sub-i
+    loop-less
+    loop-again
+    returns-2)

@@ -1,0 +1,87 @@
+-- The ballot: what is noted of each replica, message after message, and what it says. That this is what crates/rules
+-- says of the list is proved in proofs/Answers.antt.
+use Prim.Native.Nat.{ℕ, zero, suc, _+_}
+use mathlib.Core.Bool.{Bool, true, false, cond, _&&_, _||_}
+use mathlib.Core.List.{List, [], _∷_}
+use lib.Dec.{eqb, leb}
+use lib.ListN.{length, getD, set, replicate}
+use Rattle.question.specs.Question.{_else_, Answer, given, refused, ask, unitQuestions}
+use Rattle.record.specs.declared.message.Message.{Message}
+use Rattle.rules.specs.Lists.{tally}
+use Rattle.rules.specs.Vote.{counts, halts}
+use Rattle.rules.specs.declared.Query.{Query}
+use Rattle.ballot.specs.declared.ballot.Ballot.{Ballot}
+
+-- ── by their fields ──
+
+abbrev pub messageOf : ℕ → ℕ → ℕ → ℕ → ℕ → ℕ → ℕ → Message
+messageOf kind group process replica variable timestamp value = record {
+  kind = kind;
+  group = group;
+  process = process;
+  replica = replica;
+  variable = variable;
+  timestamp = record { 0 = timestamp };
+  value = value;
+}
+
+-- what a halt count is on: no halt is compared with a variable or a timestamp
+abbrev pub haltQuery : ℕ → ℕ → Query
+haltQuery group process = record { group = group; process = process; variable = 0; timestamp = record { 0 = 0 } }
+
+-- ── message after message ──
+
+-- the ballot of a list of the given length, with nothing heard
+unfoldable pub newBallot : ℕ → Ballot
+newBallot length = record { short = leb length 64; heard = replicate 8 false; values = replicate 8 0; halted = replicate 8 false }
+
+-- a reply of a replica with a value; its first is noted
+unfoldable pub hearReply : Ballot → ℕ → ℕ → Ballot
+hearReply b replica value =
+    cond (leb 8 replica || getD (b .heard) replica false) b
+    (record { short = b .short; heard = set (b .heard) replica true; values = set (b .values) replica value; halted = b .halted })
+
+-- a halt of a replica
+unfoldable pub hearHalt : Ballot → ℕ → Ballot
+hearHalt b replica =
+    cond (leb 8 replica) b (record { short = b .short; heard = b .heard; values = b .values; halted = set (b .halted) replica true })
+
+-- a message: what counts of it is noted
+unfoldable pub hear : ℕ → ℕ → Query → Ballot → Message → Ballot
+hear k n q b m =
+    cond (counts k n q m) (hearReply b (m .replica) (m .value))
+    (cond (halts k n (q .group) (q .process) m) (hearHalt b (m .replica)) b)
+
+-- the messages of a list, in their order
+unfoldable pub hearAll : ℕ → ℕ → Query → Ballot → List Message → Ballot
+hearAll k n q b [] = b
+hearAll k n q b (m ∷ list) = hearAll k n q (hear k n q b m) list
+
+-- the ballot of a list
+abbrev pub ballotOf : ℕ → ℕ → Query → List Message → Ballot
+ballotOf k n q list = hearAll k n q (newBallot (length list)) list
+
+-- ── what a ballot says ──
+
+-- whether a replica was heard to give the value
+abbrev pub gave : Ballot → ℕ → ℕ → Bool
+gave b value replica = getD (b .heard) replica false && eqb (getD (b .values) replica 0) value
+
+-- how many replicas gave the value
+unfoldable pub supportIn : Ballot → ℕ → ℕ
+supportIn b value = tally (gave b value) 7
+
+-- the value of a replica up to the given one that at least k + 1 replicas gave
+unfoldable pub electIn : ℕ → Ballot → ℕ → Answer ℕ
+electIn k b zero = refused 17
+electIn k b (suc i) =
+    cond (getD (b .heard) (suc i) false && leb (k + 1) (supportIn b (getD (b .values) (suc i) 0)))
+    (given (getD (b .values) (suc i) 0)) (electIn k b i)
+
+-- how many replicas halted
+unfoldable pub haltCountIn : Ballot → ℕ
+haltCountIn b = tally (λ replica. getD (b .halted) replica false) 7
+
+-- questions 1, 2 and 16
+abbrev pub askBallot : {A : Type 0} → ℕ → ℕ → Ballot → Answer A → Answer A
+askBallot k n b rest = ask (unitQuestions k n) (ask ((b .short else 16) ∷ []) rest)

@@ -1,0 +1,12 @@
+// The ballot: what a process heard so far of each replica, and what that says. A vote and a halt
+// count are a ballot over a list; crates/vote walks the list.
+mod ballot;
+mod count;
+
+pub use ballot::Ballot;
+pub use ballot::hear;
+pub use ballot::new_ballot;
+pub use count::HaltAnswer;
+pub use count::VoteAnswer;
+pub use count::answer_halts;
+pub use count::answer_vote;
