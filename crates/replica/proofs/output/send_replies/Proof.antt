@@ -9,10 +9,10 @@ use native.Mathlib.Omega.{arith}
 use lib.ListN.{length, getD, drop}
 use borrow.Author.Needs.{needs}
 use Rattle.rules.specs.Batch.{replyTo}
-use Rattle.replica.specs.State.{waiting, stateOf, free}
-use Rattle.replica.specs.Head.{inBatch, batchAt}
+use Rattle.batch.specs.State.{waiting, stateOf, free}
+use Rattle.batch.specs.Head.{inBatch, batchAt}
 use Rattle.replica.specs.Output.{writeAt}
-use Rattle.replica.proofs.Left.{left-next, left-none}
+use Rattle.batch.proofs.Left.{left-next, left-none}
 use Rattle.replica.proofs.Written.{write-none, write-next}
 use Rattle.replica.proofs.output.send_replies.Statement.{statement}
 use Rattle.replica.proofs.output.send_replies.Tie as tie
