@@ -8,9 +8,10 @@ use Rattle.record.specs.declared.message.Message.{Message}
 use Rattle.rules.specs.Batch.{Settings, Effect, follow}
 use Rattle.rules.specs.Replica.{State, Stepped, newState, step}
 use Rattle.rules.specs.Run.{Call, sentBy, call, run}
-use Rattle.replica.specs.State.{stateOf, stepAnswer}
+use Rattle.batch.specs.State.{stateOf}
+use Rattle.replica.specs.State.{stepAnswer}
 use Rattle.replica.specs.Run.{found, Does, delivers, steps, Runs, start, then}
-use Rattle.replica.specs.declared.state.Replica.{Replica}
+use Rattle.batch.specs.declared.state.Replica.{Replica}
 use Rattle.replica.specs.declared.stepping.StepAnswer.{StepAnswer}
 use Rattle.replica.specs.declared.stepping.StepAnswer.the-variants.{Sent, Refused}
 

@@ -12,8 +12,9 @@ use Rattle.rules.specs.Lists.{keep}
 use Rattle.rules.specs.Batch.{Store, Effect, still, failed, perform, fail, allReads, unanimous, replyTo, haltAll, handle}
 use Rattle.rules.specs.Replica.{State, stamped, ofGroup, groupTimestamp, handleBatch}
 use Rattle.laws.proofs.Lists.{true-not-false, keep-both}
-use Rattle.replica.specs.State.{withPending, withStore}
-use Rattle.replica.specs.Head.{inBatch, batchAt, firstOf}
+use Rattle.batch.specs.State.{withPending}
+use Rattle.replica.specs.State.{withStore}
+use Rattle.batch.specs.Head.{inBatch, batchAt, firstOf}
 
 -- an effect on the store, beside a batch taken off
 abbrev pub taking : ℕ → Timestamp → State → Effect Store → Effect State

@@ -1,9 +1,5 @@
 pub mod Asked
-pub mod Left
-pub mod Agree
-pub mod Compact
 pub mod Written
-pub mod Stable
 pub mod Handled
 pub mod Sends
 pub mod Visited

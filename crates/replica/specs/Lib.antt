@@ -1,4 +1,3 @@
 pub mod State
-pub mod Head
 pub mod Output
 pub mod Run

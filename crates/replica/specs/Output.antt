@@ -5,7 +5,7 @@ use lib.ListN.{length, take, drop}
 use Rattle.record.specs.declared.message.Message.{Message}
 use Rattle.rules.specs.Batch.{Effect}
 use Rattle.rules.specs.Replica.{State, Stepped, writeAll}
-use Rattle.replica.specs.State.{stateOf}
+use Rattle.batch.specs.State.{stateOf}
 use Rattle.replica.specs.declared.handle.Progress.{Progress}
 
 -- messages written behind the first `count` records

@@ -7,8 +7,9 @@ use Rattle.record.specs.declared.clock.LocalTime.{LocalTime}
 use Rattle.record.specs.declared.message.Message.{Message}
 use Rattle.rules.specs.Replica.{deliver, step}
 use Rattle.rules.specs.Run.{Call, delivery, turn, messagesIn}
-use Rattle.replica.specs.State.{stateOf, stepAnswer}
-use Rattle.replica.specs.declared.state.Replica.{Replica}
+use Rattle.batch.specs.State.{stateOf}
+use Rattle.replica.specs.State.{stepAnswer}
+use Rattle.batch.specs.declared.state.Replica.{Replica}
 use Rattle.replica.specs.declared.stepping.StepAnswer.{StepAnswer}
 use Rattle.replica.specs.declared.stepping.StepAnswer.the-variants.{Sent, Refused}
 

@@ -6,15 +6,16 @@ ghost use mathlib.Core.Bool.{_&&_, not};
 ghost use lib.Dec.{eqb};
 ghost use Rattle.rules.specs.Batch.{failed, oneMore, perform, fail};
 ghost use Rattle.rules.specs.Replica.{groupTimestamp, handleBatch};
-ghost use Rattle.replica.specs.State.{waiting, stateOf, withStore};
+ghost use Rattle.batch.specs.State.{waiting, stateOf};
+ghost use Rattle.replica.specs.State.{withStore};
 ghost use Rattle.replica.specs.Output.{sends, reached};
 use crate::output::send_halts;
 use crate::output::send_replies;
-use crate::pending::take_off;
-use crate::state::Replica;
-use crate::unanimity::all_reads;
-use crate::unanimity::first_of;
-use crate::unanimity::is_unanimous;
+use batch::Replica;
+use batch::all_reads;
+use batch::first_of;
+use batch::is_unanimous;
+use batch::take_off;
 use record::Request;
 use record::Timestamp;
 
@@ -91,10 +92,9 @@ pub(crate) fn handle_batch(
             count,
         };
     }
-    let first = first_of(r, group, t);
-    if is_unanimous(r, group, t, first) {
+    if is_unanimous(r, group, t) {
         return Progress {
-            replica: performed(rest, first),
+            replica: performed(rest, first_of(r, group, t)),
             count,
         };
     }

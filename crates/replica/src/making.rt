@@ -2,8 +2,9 @@
 ghost use mathlib.Core.Path.{_≡_};
 ghost use Rattle.question.specs.Question.{given, worked, ask, after, verdict, outcome};
 ghost use Rattle.rules.specs.Replica.{makeQuestions, make};
-ghost use Rattle.replica.specs.State.{settings, stateOf, newReplica, leastState};
-use crate::state::Replica;
+ghost use Rattle.batch.specs.State.{settings, stateOf};
+ghost use Rattle.replica.specs.State.{newReplica, leastState};
+use batch::Replica;
 use question::Outcome;
 use question::ask;
 use question::is_within;

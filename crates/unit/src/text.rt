@@ -3,7 +3,7 @@ ghost use mathlib.Core.Path.{_≡_};
 ghost use mathlib.Core.List.{[], _∷_, _++_};
 ghost use Prim.Native.Nat.{_+_, _≤_};
 ghost use lib.ListN.{length};
-ghost use Rattle.replica.specs.State.{stateOf};
+ghost use Rattle.batch.specs.State.{stateOf};
 ghost use Rattle.unit.specs.Text.{textOf, decimal, spaced, firstFour, messageLine, refusalLine, cardLine};
 use record::Message;
 use replica::Replica;

@@ -6,7 +6,7 @@ use lib.ListN.{length}
 use borrow.Author.Needs.{needs}
 use Rattle.question.specs.Question.{_else_, given, worked, ask, outcome}
 use Rattle.rules.specs.Replica.{timeQuestions}
-use Rattle.replica.specs.State.{stateOf}
+use Rattle.batch.specs.State.{stateOf}
 use Rattle.replica.proofs.Asked.{admit-next, admit-yes}
 use Rattle.replica.proofs.delivery.admit.Statement.{statement}
 use Rattle.replica.proofs.delivery.admit.Tie as tie

@@ -6,7 +6,7 @@ use lib.ListN.{length, length-map, length-take}
 use borrow.Author.Needs.{needs}
 use Rattle.record.specs.Record.{requestAnswer}
 use Rattle.rules.specs.Replica.{deliver}
-use Rattle.replica.specs.State.{stateOf}
+use Rattle.batch.specs.State.{stateOf}
 use Rattle.replica.proofs.Asked.{admit-place}
 use Rattle.replica.proofs.delivery.deliver.Statement.{statement}
 use Rattle.replica.proofs.delivery.deliver.Tie as tie

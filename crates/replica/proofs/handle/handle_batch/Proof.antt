@@ -8,8 +8,9 @@ use borrow.Author.Tests.{not-true, not-false}
 use borrow.Author.Needs.{needs}
 use Rattle.rules.specs.Batch.{perform, fail, replyTo}
 use Rattle.rules.specs.Replica.{State}
-use Rattle.replica.specs.State.{waiting, stateOf, withStore}
-use Rattle.replica.specs.Head.{batchAt}
+use Rattle.batch.specs.State.{waiting, stateOf}
+use Rattle.replica.specs.State.{withStore}
+use Rattle.batch.specs.Head.{batchAt}
 use Rattle.replica.proofs.Handled.{handled-reads, handled-still, handled-write, handled-fails}
 use Rattle.replica.proofs.Sends.{stepped-is, sends-as, sends-still}
 use Rattle.replica.proofs.handle.handle_batch.Statement.{statement}
@@ -58,31 +59,31 @@ returns-2 c =
       omega arith,
     )
 
-first-of-requires : tie.Need-first-of-requires
-first-of-requires c κs = search needs
-
 is-unanimous-requires : tie.Need-is-unanimous-requires
 is-unanimous-requires c κs = search needs
+
+first-of-requires : tie.Need-first-of-requires
+first-of-requires c κs = search needs
 
 performed-requires : tie.Need-performed-requires
 performed-requires c κs = search needs
 
 returns-3 : tie.Need-returns-3
 returns-3 c =
-    let unanimous = c .before .before in
-    let change = unanimous .before .before .before in
+    let first = c .before in
+    let unanimous = first .before .before in
+    let change = unanimous .before .before in
     let reads = change .before .before in
     let start = reads .before .before .before in
     let a = start .args in
     let no = sym (reads .all-reads .ensures) ∙ change .before .if1 .left in
-    let may = sym (change .may-change .ensures) ∙ not-false _ (unanimous .before .before .if2 .left) in
-    let all = sym (unanimous .is-unanimous .ensures) ∙ c .before .if3 .taken in
-    let first = unanimous .before .first-of in
+    let may = sym (change .may-change .ensures) ∙ not-false _ (unanimous .before .if2 .left) in
+    let all = sym (unanimous .is-unanimous .ensures) ∙ first .before .if3 .taken in
     let state =
     c .performed .ensures
-    ∙ ap (λ (x : State). withStore (perform (first .result ∷ []) (x .store)) x) (reads .before .take-off .ensures) in (
+    ∙ ap (λ (x : State). withStore (perform (first .first-of .result ∷ []) (x .store)) x) (reads .before .take-off .ensures) in (
       sends-as (a .count) (a .output .now) (handled-write (a .group) (a .t) (stateOf (a .r)) (start .pre .0) no may all)
-          (stepped-is (rw (first .ensures) at state) refl refl ∙ sym (sends-still (a .count) (a .output .now) _)),
+          (stepped-is (rw (first .first-of .ensures) at state) refl refl ∙ sym (sends-still (a .count) (a .output .now) _)),
       omega arith,
     )
 
@@ -99,12 +100,12 @@ returns-4 : tie.Need-returns-4
 returns-4 c =
     let sent = c .before .before .before in
     let unanimous = sent .before .before .before in
-    let change = unanimous .before .before .before in
+    let change = unanimous .before .before in
     let reads = change .before .before in
     let start = reads .before .before .before in
     let a = start .args in
     let no = sym (reads .all-reads .ensures) ∙ change .before .if1 .left in
-    let may = sym (change .may-change .ensures) ∙ not-false _ (unanimous .before .before .if2 .left) in
+    let may = sym (change .may-change .ensures) ∙ not-false _ (unanimous .before .if2 .left) in
     let not-all = sym (unanimous .is-unanimous .ensures) ∙ sent .before .before .if3 .left in
     let state = c .failing .ensures ∙ ap (λ (x : State). withStore (fail (x .store)) x) (reads .before .take-off .ensures) in (
       sends-as (a .count) (a .output .now) (handled-fails (a .group) (a .t) (stateOf (a .r)) (start .pre .0) no may not-all)
@@ -123,8 +124,8 @@ handle-batch-spec =
     returns
     may-change-requires
     returns-2
-    first-of-requires
     is-unanimous-requires
+    first-of-requires
     performed-requires
     returns-3
     send-halts-requires

@@ -4,7 +4,7 @@ use borrow.Author.Needs.{needs}
 use Rattle.question.specs.Question.{given, next, outcome}
 use Rattle.rules.specs.Replica.{makeQuestions, newState, make}
 use Rattle.question.proofs.Questions.{next-asked}
-use Rattle.replica.specs.State.{settings}
+use Rattle.batch.specs.State.{settings}
 use Rattle.replica.proofs.making.make.Statement.{statement}
 use Rattle.replica.proofs.making.make.Tie as tie
 

@@ -3,16 +3,16 @@ use Prim.Native.Nat.{_+_, _≤_, _-_}
 use mathlib.Core.Path.{_≡_, refl, sym, ap, _∙_}
 use mathlib.Core.Logic.{⊎-elim}
 use mathlib.Core.Bool.{true, false}
-use mathlib.Core.List.{map}
+use mathlib.Core.List.{[], _∷_, map}
 use native.Mathlib.Nat.{add-zero}
 use native.Mathlib.Omega.{arith}
 use lib.ListN.{length, getD, drop}
 use borrow.Author.Needs.{needs}
 use Rattle.rules.specs.Batch.{replyTo}
-use Rattle.replica.specs.State.{waiting, stateOf, free}
-use Rattle.replica.specs.Head.{inBatch, batchAt}
+use Rattle.batch.specs.State.{waiting, stateOf, free}
+use Rattle.batch.specs.Head.{inBatch, batchAt}
 use Rattle.replica.specs.Output.{writeAt}
-use Rattle.replica.proofs.Left.{left-next, left-none}
+use Rattle.batch.proofs.Left.{left-next, left-none}
 use Rattle.replica.proofs.Written.{write-none, write-next}
 use Rattle.replica.proofs.output.send_replies.Statement.{statement}
 use Rattle.replica.proofs.output.send_replies.Tie as tie
@@ -73,12 +73,13 @@ loop-again c =
     ⊎-elim
     (λ w.
     let here : inBatch (a .group) (a .t) p ≡ true = sym mine ∙ w .0 .taken in
-    let message = w .5 .ensures (stateOf r .store) refl in (
+    let message = w .5 .ensures (stateOf r .store) refl in
+    let written : c .if1 .output ≡ writeAt (r .k) (r .groups) (l .loop .next) (w .5 .result ∷ []) (l .loop .output) = rw (w .10) (w .7 .ensures) in (
       omega arith,
       omega (arith, w .11),
       ap length (w .10) ∙ (w .7 .kept .1 .1 .1 .0 ∙ inv .2),
       omega (arith, w .11, rw (next, here) at (inv .3)),
-      rw (w .10, w .11, w .7 .ensures, message)
+      rw (written, w .11, message)
           (sym (write-next (r .k) (r .groups) (l .loop .next) (reply (p .request)) _ (l .loop .output)) ∙ (rw (next, here) at (inv .4))),
     ))
     (λ w.

@@ -5,7 +5,7 @@ use native.Mathlib.Omega.{arith}
 use borrow.Author.Needs.{needs}
 use Rattle.question.specs.Question.{given, next, outcome}
 use Rattle.rules.specs.Replica.{State, visits, stepped, step}
-use Rattle.replica.specs.State.{stateOf}
+use Rattle.batch.specs.State.{stateOf}
 use Rattle.replica.specs.Output.{sends}
 use Rattle.replica.proofs.Asked.{step-next}
 use Rattle.replica.proofs.Sends.{stepped-sends}

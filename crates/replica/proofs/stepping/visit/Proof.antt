@@ -7,9 +7,9 @@ use lib.ListN.{length, length-map, length-take}
 use borrow.Author.Needs.{needs}
 use Rattle.rules.specs.Batch.{still}
 use Rattle.rules.specs.Replica.{Stepped, groupTimestamp, batchOf, isStable, visit}
-use Rattle.replica.specs.State.{waiting, stateOf}
+use Rattle.batch.specs.State.{waiting, stateOf}
 use Rattle.replica.specs.Output.{sends, reached}
-use Rattle.replica.proofs.Stable.{late-yes, late-no}
+use Rattle.batch.proofs.Stable.{late-yes, late-no}
 use Rattle.replica.proofs.Sends.{sends-as, sends-still}
 use Rattle.replica.proofs.Visited.{visit-over, visit-enough, visit-sends}
 use Rattle.replica.proofs.stepping.visit.Statement.{statement}

@@ -7,7 +7,7 @@ use lib.ListN.{length}
 use borrow.Author.Needs.{needs}
 use Rattle.rules.specs.Batch.{Effect}
 use Rattle.rules.specs.Replica.{State, Stepped, visit, visits}
-use Rattle.replica.specs.State.{stateOf}
+use Rattle.batch.specs.State.{stateOf}
 use Rattle.replica.specs.Output.{sends, reached}
 use Rattle.replica.proofs.Sends.{sends-still, sends-follow}
 use Rattle.replica.proofs.Visited.{visit-settings}

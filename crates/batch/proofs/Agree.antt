@@ -1,0 +1,110 @@
+-- Unanimity, request by request: each is a write like the first, and its sender has not been seen.
+use Prim.Native.Nat.{ℕ, _+_, _<_}
+use mathlib.Core.Path.{_≡_, refl, sym}
+use mathlib.Core.Bool.{Bool, true, false, cond, not, _&&_, _||_, and-assoc, and-comm, and-true, and-false, or-true, or-false}
+use mathlib.Core.List.{List, [], _∷_}
+use native.Mathlib.Omega.{arith}
+use lib.Dec.{eqb, ltb}
+use lib.ListN.{length, getD, set, replicate, getD-replicate, length-replicate, List·getD-eq-default}
+use lib.Seq.{set-getD, getD-set-same, getD-set-other}
+use borrow.Author.Tests.{eqb-true, eqb-false, eq-eqb, ltb-true, ltb-false}
+use Rattle.record.specs.declared.clock.Timestamp.{Timestamp}
+use Rattle.record.specs.declared.request.Request.{Request}
+use Rattle.rules.specs.Lists.{every, some}
+use Rattle.rules.specs.Batch.{isRead, isWrite, sameWrite, allReads, allSame, allSendersDiffer, unanimous}
+use Rattle.rules.specs.declared.Pending.{Pending}
+use Rattle.laws.proofs.Lists.{case}
+use Rattle.batch.specs.Head.{inBatch, batchAt, firstOf}
+
+module _ (group : ℕ) (t : Timestamp) (p : Pending) (rest : List Pending) where
+  abbrev mine : Bool
+  mine = inBatch group t p
+
+  -- one more request, whether or not it is of the batch
+  pub reads-step : (all : Bool)
+      → (all && (not mine || isRead (p .request))) && allReads (batchAt group t rest) ≡ all && allReads (batchAt group t (p ∷ rest))
+  reads-step all =
+      case mine
+      (λ e. rw e (and-assoc all (isRead (p .request)) (allReads (batchAt group t rest))))
+      (λ e. rw (e, and-true all))
+
+  pub size-step : (size : ℕ) → size + cond mine 1 0 + length (batchAt group t rest) ≡ size + length (batchAt group t (p ∷ rest))
+  size-step size = case mine (λ e. rw e (omega arith)) (λ e. rw e (omega arith))
+
+-- ── unanimity ──
+
+module _ (first : Request) where
+  -- a write like the first, from a sender not seen
+  abbrev agrees : List Bool → Request → Bool
+  agrees seen q = (isWrite q && sameWrite first q) && not (getD seen (q .process) false)
+
+  -- every one of them is, and their senders differ
+  abbrev pub agree : List Bool → List Request → Bool
+  agree seen batch = every (agrees seen) batch && allSendersDiffer batch
+
+  -- to have seen one sender more says that none of the rest is it
+  seen-more : (seen : List Bool) (s : ℕ) (batch : List Request) → s < length seen
+      → every (agrees (set seen s true)) batch ≡ every (agrees seen) batch && not (some (λ q. eqb s (q .process)) batch)
+  seen-more seen s [] h = refl
+  seen-more seen s (q ∷ batch) h =
+      let rest = every (agrees seen) batch in
+      let there = some (λ r. eqb s (r .process)) batch in
+      case (eqb s (q .process))
+      (λ e.
+      let same : getD (set seen s true) (q .process) false ≡ true = rw (← eqb-true s (q .process) e) (getD-set-same seen s true false h) in
+      rw (e, same, and-false (isWrite q && sameWrite first q), and-false (agrees seen q && rest)))
+      (λ e.
+      let other = getD-set-other seen s (q .process) true false (λ i. eqb-false s (q .process) e (sym i)) in
+      rw (e, other, seen-more seen s batch h) (sym (and-assoc (agrees seen q) rest (not there))))
+
+  module _ (group : ℕ) (t : Timestamp) (p : Pending) (rest : List Pending) (seen : List Bool) (room : p .request .process < length seen) where
+    abbrev was : Bool
+    was = getD seen (p .request .process) false
+
+    -- one more request, whether or not it is of the batch
+    pub agree-step : (same : Bool)
+        → (same && (not (inBatch group t p) || ((isWrite (p .request) && sameWrite first (p .request)) && not was)))
+        && agree (set seen (p .request .process) (was || inBatch group t p)) (batchAt group t rest)
+        ≡ same && agree seen (batchAt group t (p ∷ rest))
+    agree-step same =
+        let batch = batchAt group t rest in
+        let d = allSendersDiffer batch in
+        let f = not (some (λ q. eqb (p .request .process) (q .process)) batch) in
+        case (inBatch group t p)
+        (λ e. rw (e, or-true was, seen-more seen (p .request .process) batch room)
+        (shuffle same (agrees seen (p .request)) (every (agrees seen) batch) f d))
+        (λ e. rw (e, or-false was, set-getD seen (p .request .process) false, and-true same))
+      where
+        shuffle : (a b c d e : Bool) → (a && b) && ((c && d) && e) ≡ a && ((b && c) && (d && e))
+        shuffle a b c d e = simp and-assoc
+
+-- with no sender seen, any is a new one
+unseen : (q : Request) → getD (replicate 256 false) (q .process) false ≡ false
+unseen q =
+    case (ltb (q .process) 256)
+    (λ e. getD-replicate 256 (q .process) false false (ltb-true (q .process) 256 e))
+    (λ e. List·getD-eq-default (replicate 256 false) false {n = q .process} (omega (arith, length-replicate 256 false, ltb-false (q .process) 256 e)))
+
+agree-all : (first : Request) (batch : List Request)
+    → every (agrees first (replicate 256 false)) batch ≡ every isWrite batch && every (sameWrite first) batch
+agree-all first [] = refl
+agree-all first (q ∷ batch) =
+    rw (unseen q, agree-all first batch) (shuffle (isWrite q) (sameWrite first q) (every isWrite batch) (every (sameWrite first) batch))
+  where
+    shuffle : (a b c d : Bool) → ((a && b) && true) && (c && d) ≡ (a && c) && (b && d)
+    shuffle true b c d = rw (and-true b, ← and-assoc b c d, and-comm b c, and-assoc c b d)
+    shuffle false b c d = refl
+
+all-same : (batch : List Request) → every (sameWrite (firstOf batch)) batch ≡ allSame batch
+all-same [] = refl
+all-same (q ∷ batch) = rw (eq-eqb (q .variable) (q .variable) refl, eq-eqb (q .value) (q .value) refl)
+
+-- with no sender seen, and as many as there must be, that is unanimity
+pub agree-unanimous : (k : ℕ) (batch : List Request)
+    → agree (firstOf batch) (replicate 256 false) batch && eqb (length batch) (k + 1) ≡ unanimous k batch
+agree-unanimous k batch =
+    rw (agree-all (firstOf batch) batch, all-same batch)
+    (shuffle (every isWrite batch) (allSame batch) (allSendersDiffer batch) (eqb (length batch) (k + 1)))
+  where
+    shuffle : (w s d e : Bool) → ((w && s) && d) && e ≡ ((e && w) && d) && s
+    shuffle w s d e = rw (and-comm ((w && s) && d) e) (simp and-assoc (rw (and-comm s d)))

@@ -1,0 +1,4 @@
+pub mod Left
+pub mod Agree
+pub mod Compact
+pub mod Stable

@@ -1,0 +1,74 @@
+-- No request passed is of the batch, so the batch is what is left of it.
+use Prim.Native.Nat.{_≤_, _-_}
+use mathlib.Core.Path.{_≡_, refl}
+use native.Mathlib.Omega.{arith}
+use lib.ListN.{drop}
+use borrow.Author.Needs.{needs}
+use Rattle.batch.specs.State.{waiting, free}
+use Rattle.batch.specs.Head.{batchAt}
+use Rattle.batch.proofs.Left.{left-next, left-none}
+use Rattle.batch.proofs.unanimity.first_of.Statement.{statement}
+use Rattle.batch.proofs.unanimity.first_of.Tie as tie
+
+abbrev Inv-loop : tie.InvT-loop
+Inv-loop group t r n i₀ i = (i ≤ n) × (batchAt group t (drop i (waiting r)) ≡ batchAt group t (waiting r))
+
+abbrev μ-loop : tie.MeasureT-loop
+μ-loop group t r n i₀ i = n - i
+
+pending-count-requires : tie.Need-pending-count-requires Inv-loop μ-loop
+pending-count-requires c κs = search needs
+
+loop-holds : tie.Need-loop-holds Inv-loop μ-loop
+loop-holds c = (omega arith, refl)
+
+mul-p : tie.Need-mul-p Inv-loop μ-loop
+mul-p c = search needs
+
+element-copy-out-p : tie.Need-element-copy-out-p Inv-loop μ-loop
+element-copy-out-p c = search needs
+
+in-batch-requires : tie.Need-in-batch-requires Inv-loop μ-loop
+in-batch-requires c κs = search needs
+
+returns : tie.Need-returns Inv-loop μ-loop
+returns c =
+    let l = c .before .before .before .before .before in
+    let r = l .before .before .args .t1 in
+    let next = left-next (r .count) (r .pending) (l .loop .i) free (omega (arith, l .before .pending-count .ensures .0)) in
+    rw (← l .loop .inv .1, next, ← c .before .before .in-batch .ensures, c .before .if1 .taken)
+
+add-i : tie.Need-add-i Inv-loop μ-loop
+add-i c = search needs
+
+loop-less : tie.Need-loop-less Inv-loop μ-loop
+loop-less c = search needs
+
+loop-again : tie.Need-loop-again Inv-loop μ-loop
+loop-again c =
+    let l = c .before .before .before .before in
+    let r = l .before .before .args .t1 in
+    let next = left-next (r .count) (r .pending) (l .loop .i) free (omega (arith, l .before .pending-count .ensures .0)) in
+    (omega arith, rw (next, ← c .before .in-batch .ensures, c .if1 .left) at (l .loop .inv .1))
+
+returns-2 : tie.Need-returns-2 Inv-loop μ-loop
+returns-2 c =
+    let r = c .before .before .before .args .t1 in
+    rw (← c .before .loop .inv .1, left-none (r .count) (r .pending) (c .before .loop .i) (omega (arith, c .before .before .pending-count .ensures .0)))
+
+pub first-of-spec : {M : Type 1} → statement M
+first-of-spec =
+    tie.close
+    (tie.spec
+    Inv-loop
+    μ-loop
+    pending-count-requires
+    loop-holds
+    mul-p
+    element-copy-out-p
+    in-batch-requires
+    returns
+    add-i
+    loop-less
+    loop-again
+    returns-2)

@@ -1,0 +1,126 @@
+-- What was seen so far, and that what is left agrees, is that all agree.
+use Prim.Native.Nat.{_+_, _≤_, _-_}
+use mathlib.Core.Path.{_≡_, refl, sym, _∙_}
+use mathlib.Core.Bool.{false, _&&_, and-true}
+use native.Mathlib.Nat.{add-zero}
+use native.Mathlib.Omega.{arith}
+use lib.ListN.{length, getD, drop, replicate, length-set}
+use borrow.Author.Needs.{needs}
+use Rattle.batch.specs.State.{waiting, free}
+use Rattle.batch.specs.Head.{batchAt}
+use Rattle.batch.proofs.Left.{left-next, left-none}
+use Rattle.batch.proofs.Agree.{agree, size-step, agree-step, agree-unanimous}
+use Rattle.batch.proofs.unanimity.is_unanimous_from.Statement.{statement}
+use Rattle.batch.proofs.unanimity.is_unanimous_from.Tie as tie
+
+abbrev Inv-loop : tie.InvT-loop
+Inv-loop group t first r n seen₀ size₀ same₀ i₀ seen size same i =
+    (i ≤ n)
+    × (length seen ≡ 256)
+    × (size ≤ i)
+    × (size + length (batchAt group t (drop i (waiting r))) ≡ length (batchAt group t (waiting r)))
+    × (same && agree first seen (batchAt group t (drop i (waiting r))) ≡ agree first (replicate 256 false) (batchAt group t (waiting r)))
+
+abbrev μ-loop : tie.MeasureT-loop
+μ-loop group t first r n seen₀ size₀ same₀ i₀ seen size same i = n - i
+
+pending-count-requires : tie.Need-pending-count-requires Inv-loop μ-loop
+pending-count-requires c κs = search needs
+
+loop-holds : tie.Need-loop-holds Inv-loop μ-loop
+loop-holds c = (omega arith, refl, omega arith, omega arith, refl)
+
+mul-p : tie.Need-mul-p Inv-loop μ-loop
+mul-p c = search needs
+
+element-copy-out-p : tie.Need-element-copy-out-p Inv-loop μ-loop
+element-copy-out-p c = search needs
+
+in-batch-requires : tie.Need-in-batch-requires Inv-loop μ-loop
+in-batch-requires c κs = search needs
+
+cast-sender : tie.Need-cast-sender Inv-loop μ-loop
+cast-sender c = search needs
+
+agrees-requires : tie.Need-agrees-requires Inv-loop μ-loop
+agrees-requires c κs = search needs
+
+array-read-same : tie.Need-array-read-same Inv-loop μ-loop
+array-read-same c = search needs
+
+array-read-seen : tie.Need-array-read-seen Inv-loop μ-loop
+array-read-seen c = search needs
+
+array-write-seen : tie.Need-array-write-seen Inv-loop μ-loop
+array-write-seen c = search needs
+
+one-if-requires : tie.Need-one-if-requires Inv-loop μ-loop
+one-if-requires c κs = search needs
+
+add-size : tie.Need-add-size Inv-loop μ-loop
+add-size c = search needs
+
+add-i : tie.Need-add-i Inv-loop μ-loop
+add-i c = search needs
+
+loop-less : tie.Need-loop-less Inv-loop μ-loop
+loop-less c = search needs
+
+loop-again : tie.Need-loop-again Inv-loop μ-loop
+loop-again c =
+    let l = c .before .before .before .before .before .before .before in
+    let a = l .before .before .args in
+    let r = a .t1 in
+    let inv = l .loop .inv in
+    let p = getD (r .pending) (l .loop .i) free in
+    let rest = drop (l .loop .i + 1) (waiting r) in
+    let next = left-next (r .count) (r .pending) (l .loop .i) free (omega (arith, l .before .pending-count .ensures .0)) in (
+      omega arith,
+      simp length-set (inv .1),
+      omega (arith, c .one-if .ensures .1),
+      rw (c .one-if .ensures .0, c .before .before .before .in-batch .ensures)
+          (size-step (a .group) (a .t) p rest (l .loop .size) ∙ (rw next at (inv .3))),
+      rw (c .before .agrees .ensures, c .before .before .before .in-batch .ensures)
+          (agree-step (a .first) (a .group) (a .t) p rest (l .loop .seen) (omega arith) (l .loop .same) ∙ (rw next at (inv .4))),
+    )
+
+cast-result : tie.Need-cast-result Inv-loop μ-loop
+cast-result c = search needs
+
+add-result : tie.Need-add-result Inv-loop μ-loop
+add-result c = search needs
+
+returns : tie.Need-returns Inv-loop μ-loop
+returns c =
+    let l = c .before in
+    let a = l .before .before .args in
+    let r = a .t1 in
+    let none = left-none (r .count) (r .pending) (l .loop .i) (omega (arith, l .before .pending-count .ensures .0)) in
+    let same = sym (and-true (l .loop .same)) ∙ (rw none at (l .loop .inv .4)) in
+    let size = sym (add-zero (l .loop .size)) ∙ (rw none at (l .loop .inv .3)) in
+    rw (same, size, l .before .before .pre) (agree-unanimous (r .k) (batchAt (a .group) (a .t) (waiting r)))
+
+pub is-unanimous-from-spec : {M : Type 1} → statement M
+is-unanimous-from-spec =
+    tie.close
+    (tie.spec
+    Inv-loop
+    μ-loop
+    pending-count-requires
+    loop-holds
+    mul-p
+    element-copy-out-p
+    in-batch-requires
+    cast-sender
+    agrees-requires
+    array-read-same
+    array-read-seen
+    array-write-seen
+    one-if-requires
+    add-size
+    add-i
+    loop-less
+    loop-again
+    cast-result
+    add-result
+    returns)

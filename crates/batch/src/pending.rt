@@ -1,0 +1,131 @@
+// The batch of a group among the pending requests: finding it, and taking it off.
+ghost use mathlib.Core.Path.{_≡_};
+ghost use Prim.Native.Nat.{_≤_};
+ghost use mathlib.Core.Bool.{cond, not};
+ghost use Rattle.rules.specs.Lists.{keep};
+ghost use Rattle.rules.specs.Replica.{earlier};
+ghost use Rattle.batch.specs.State.{waiting, stateOf, withPending};
+ghost use Rattle.batch.specs.Head.{meet, join, headIn, isLate, stableHead, inBatch};
+use crate::state::Replica;
+use crate::state::pending_count;
+use record::LocalTime;
+use record::Timestamp;
+use rules::Pending;
+
+// The head of a group: its least timestamp, and the first arrival with that timestamp.
+pub enum Head {
+    Nothing,
+    At(Timestamp, LocalTime),
+}
+
+fn earlier(a: LocalTime, b: LocalTime) -> LocalTime
+    ensures { λ r. ⌜ r ≡ earlier a b ⌝ }
+{
+    if b.0 < a.0 { b } else { a }
+}
+
+// A head and one more request of its group.
+fn join(h: Head, t: Timestamp, arrival: LocalTime) -> Head
+    ensures { λ r. ⌜ r ≡ join h t arrival ⌝ }
+{
+    match h {
+        Head::Nothing => Head::At(t, arrival),
+        Head::At(least, first) => {
+            if t.0 < least.0 {
+                return Head::At(t, arrival);
+            }
+            if least.0 < t.0 {
+                return Head::At(least, first);
+            }
+            Head::At(least, earlier(first, arrival))
+        }
+    }
+}
+
+// A head and one more request of any group.
+fn meet(group: u8, h: Head, p: Pending) -> Head
+    ensures { λ r. ⌜ r ≡ meet group h p ⌝ }
+{
+    let request = p.request;
+    if request.group != group {
+        return h;
+    }
+    let t = request.timestamp;
+    let arrival = p.arrival;
+    join(h, t, arrival)
+}
+
+fn head_of(r: Replica, group: u8) -> Head
+    ensures { λ h. ⌜ h ≡ headIn group (waiting r) ⌝ }
+{
+    let n = pending_count(r);
+    let mut h = Head::Nothing;
+    let mut i: usize = 0;
+    while i < n {
+        let p = r.pending[i];
+        h = meet(group, h, p);
+        i += 1;
+    }
+    h
+}
+
+// first + delta < at
+fn is_late(first: LocalTime, delta: u64, at: LocalTime) -> bool
+    ensures { λ b. ⌜ b ≡ isLate first delta at ⌝ }
+{
+    if at.0 <= first.0 {
+        return false;
+    }
+    if at.0 - first.0 <= delta {
+        return false;
+    }
+    true
+}
+
+// The head of a group where its batch is stable.
+pub fn stable_head(r: Replica, group: u8, at: LocalTime) -> Head
+    ensures { λ h. ⌜ h ≡ stableHead group at (stateOf r) ⌝ }
+{
+    match head_of(r, group) {
+        Head::Nothing => Head::Nothing,
+        Head::At(t, first) => {
+            if is_late(first, r.delta, at) {
+                Head::At(t, first)
+            } else {
+                Head::Nothing
+            }
+        }
+    }
+}
+
+pub fn in_batch(group: u8, t: Timestamp, p: Pending) -> bool
+    ensures { λ b. ⌜ b ≡ inBatch group t p ⌝ }
+{
+    let request = p.request;
+    (request.group == group) & (request.timestamp.0 == t.0)
+}
+
+pub(crate) fn one_if(b: bool) -> usize
+    ensures is { λ n. ⌜ n ≡ cond b 1 0 ⌝ }
+    ensures most { λ n. ⌜ n ≤ 1 ⌝ }
+{
+    if b { 1 } else { 0 }
+}
+
+// The replica without the batch: one pass, each request that stays moves up once.
+pub fn take_off(r: Replica, group: u8, t: Timestamp) -> Replica
+    ensures { λ s. ⌜ stateOf s ≡ withPending (keep (λ p. not (inBatch group t p)) (waiting r)) (stateOf r) ⌝ }
+{
+    let n = pending_count(r);
+    let mut next = r;
+    let mut kept: usize = 0;
+    let mut i: usize = 0;
+    while i < n {
+        let p = next.pending[i];
+        next.pending[kept] = p;
+        kept += one_if(!in_batch(group, t, p));
+        i += 1;
+    }
+    next.count = kept;
+    next
+}
