@@ -1,7 +1,7 @@
 // Reading and writing of records.
 ghost use mathlib.Core.Path.{_≡_};
-ghost use Rattle.question.specs.Question.{after, outcome};
-ghost use Rattle.record.specs.Record.{readRequest, readMessage, writeRequest, writeMessage};
+ghost use Rattle.question.specs.Question.{after, verdict, outcome};
+ghost use Rattle.record.specs.Record.{requestAnswer, messageAnswer, readRequest, readMessage, writeRequest, writeMessage};
 ghost use Rattle.replica.specs.State.{blankRequest};
 ghost use Rattle.export.specs.Result.{refusalOf, noMessage, requestResult, messageResult};
 use question::Outcome;
@@ -59,11 +59,10 @@ fn no_message() -> Message
     }
 }
 
-#[no_mangle]
-pub extern "C" fn export_read_request(k: u8, n: u8, bytes: &[u8]) -> RequestResult
-    ensures { λ r. ⌜ r ≡ requestResult (readRequest k n (now (bytes .entry))) ⌝ }
+fn request_result(read: RequestRead) -> RequestResult
+    ensures { λ r. ⌜ r ≡ requestResult (requestAnswer read) ⌝ }
 {
-    match record::read_request(k, n, bytes) {
+    match read {
         RequestRead::Accepted(request) => RequestResult {
             refusal: 0,
             request,
@@ -75,11 +74,10 @@ pub extern "C" fn export_read_request(k: u8, n: u8, bytes: &[u8]) -> RequestResu
     }
 }
 
-#[no_mangle]
-pub extern "C" fn export_read_message(k: u8, n: u8, bytes: &[u8]) -> MessageResult
-    ensures { λ r. ⌜ r ≡ messageResult (readMessage k n (now (bytes .entry))) ⌝ }
+fn message_result(read: MessageRead) -> MessageResult
+    ensures { λ r. ⌜ r ≡ messageResult (messageAnswer read) ⌝ }
 {
-    match record::read_message(k, n, bytes) {
+    match read {
         MessageRead::Accepted(message) => MessageResult {
             refusal: 0,
             message,
@@ -92,8 +90,22 @@ pub extern "C" fn export_read_message(k: u8, n: u8, bytes: &[u8]) -> MessageResu
 }
 
 #[no_mangle]
+pub extern "C" fn export_read_request(k: u8, n: u8, bytes: &[u8]) -> RequestResult
+    ensures { λ r. ⌜ r ≡ requestResult (readRequest k n (now (bytes .entry))) ⌝ }
+{
+    request_result(record::read_request(k, n, bytes))
+}
+
+#[no_mangle]
+pub extern "C" fn export_read_message(k: u8, n: u8, bytes: &[u8]) -> MessageResult
+    ensures { λ r. ⌜ r ≡ messageResult (readMessage k n (now (bytes .entry))) ⌝ }
+{
+    message_result(record::read_message(k, n, bytes))
+}
+
+#[no_mangle]
 pub extern "C" fn export_write_request(k: u8, n: u8, r: Request, destination: &mut [u8]) -> u8
-    ensures answer { λ q. ⌜ q ≡ refusalOf (writeRequest k n r (now (destination .entry))) ⌝ }
+    ensures answer { λ q. ⌜ q ≡ refusalOf (verdict (writeRequest k n r (now (destination .entry)))) ⌝ }
     ensures content { λ q. ⌜ now (destination .exit) ≡ after (now (destination .entry)) (writeRequest k n r (now (destination .entry))) ⌝ }
 {
     refusal_of(record::write_request(k, n, r, destination))
@@ -101,7 +113,7 @@ pub extern "C" fn export_write_request(k: u8, n: u8, r: Request, destination: &m
 
 #[no_mangle]
 pub extern "C" fn export_write_message(k: u8, n: u8, m: Message, destination: &mut [u8]) -> u8
-    ensures answer { λ q. ⌜ q ≡ refusalOf (writeMessage k n m (now (destination .entry))) ⌝ }
+    ensures answer { λ q. ⌜ q ≡ refusalOf (verdict (writeMessage k n m (now (destination .entry)))) ⌝ }
     ensures content { λ q. ⌜ now (destination .exit) ≡ after (now (destination .entry)) (writeMessage k n m (now (destination .entry))) ⌝ }
 {
     refusal_of(record::write_message(k, n, m, destination))

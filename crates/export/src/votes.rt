@@ -3,6 +3,7 @@
 ghost use mathlib.Core.Path.{_≡_};
 ghost use lib.ListN.{take};
 ghost use Rattle.rules.specs.Vote.{vote, haltCount};
+ghost use Rattle.vote.specs.Answers.{voteAnswer, haltAnswer};
 ghost use Rattle.export.specs.Result.{valueResult};
 use record::Message;
 use rules::Query;
@@ -22,18 +23,36 @@ pub struct ValueResult {
     pub value: u64,
 }
 
-#[no_mangle]
-pub extern "C" fn export_vote(k: u8, n: u8, q: Query, list: List) -> ValueResult
-    ensures { λ r. ⌜ r ≡ valueResult (vote k n q (take (list .count) (list .messages))) ⌝ }
+fn vote_result(a: VoteAnswer) -> ValueResult
+    ensures { λ r. ⌜ r ≡ valueResult (voteAnswer a) ⌝ }
 {
-    let messages = list.messages;
-    match vote::vote_in(k, n, q, messages, list.count) {
+    match a {
         VoteAnswer::Value(value) => ValueResult {
             refusal: 0,
             value: value as u64,
         },
         VoteAnswer::Refused(refusal) => ValueResult { refusal, value: 0 },
     }
+}
+
+fn halt_result(a: HaltAnswer) -> ValueResult
+    ensures { λ r. ⌜ r ≡ valueResult (haltAnswer a) ⌝ }
+{
+    match a {
+        HaltAnswer::Count(count) => ValueResult {
+            refusal: 0,
+            value: count as u64,
+        },
+        HaltAnswer::Refused(refusal) => ValueResult { refusal, value: 0 },
+    }
+}
+
+#[no_mangle]
+pub extern "C" fn export_vote(k: u8, n: u8, q: Query, list: List) -> ValueResult
+    ensures { λ r. ⌜ r ≡ valueResult (vote k n q (take (list .count) (list .messages))) ⌝ }
+{
+    let messages = list.messages;
+    vote_result(vote::vote_in(k, n, q, messages, list.count))
 }
 
 #[no_mangle]
@@ -47,11 +66,5 @@ pub extern "C" fn export_count_halts(
     ensures { λ r. ⌜ r ≡ valueResult (haltCount k n group process (take (list .count) (list .messages))) ⌝ }
 {
     let messages = list.messages;
-    match vote::count_halts_in(k, n, group, process, messages, list.count) {
-        HaltAnswer::Count(count) => ValueResult {
-            refusal: 0,
-            value: count as u64,
-        },
-        HaltAnswer::Refused(refusal) => ValueResult { refusal, value: 0 },
-    }
+    halt_result(vote::count_halts_in(k, n, group, process, messages, list.count))
 }
