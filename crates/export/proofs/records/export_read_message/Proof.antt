@@ -1,5 +1,3 @@
-use mathlib.Core.Path.{ap, _∙_}
-use Rattle.export.specs.Result.{messageResult}
 use borrow.Author.Needs.{needs}
 use Rattle.export.proofs.records.export_read_message.Statement.{statement}
 use Rattle.export.proofs.records.export_read_message.Tie as tie
@@ -11,7 +9,7 @@ message-result-requires : tie.Need-message-result-requires
 message-result-requires c κs = search needs
 
 returns : tie.Need-returns
-returns c = c .message-result .ensures ∙ ap messageResult (c .before .read-message .ensures)
+returns c = rw (c .message-result .ensures, c .before .read-message .ensures)
 
 pub export-read-message-spec : {M : Type 1} → statement M
 export-read-message-spec =

@@ -1,5 +1,3 @@
-use mathlib.Core.Path.{ap, _∙_}
-use Rattle.export.specs.Result.{requestResult}
 use borrow.Author.Needs.{needs}
 use Rattle.export.proofs.records.export_read_request.Statement.{statement}
 use Rattle.export.proofs.records.export_read_request.Tie as tie
@@ -11,7 +9,7 @@ request-result-requires : tie.Need-request-result-requires
 request-result-requires c κs = search needs
 
 returns : tie.Need-returns
-returns c = c .request-result .ensures ∙ ap requestResult (c .before .read-request .ensures)
+returns c = rw (c .request-result .ensures, c .before .read-request .ensures)
 
 pub export-read-request-spec : {M : Type 1} → statement M
 export-read-request-spec =

@@ -1,5 +1,3 @@
-use mathlib.Core.Path.{ap, _∙_}
-use Rattle.export.specs.Result.{refusalOf}
 use borrow.Author.Needs.{needs}
 use Rattle.export.proofs.records.export_write_request.Statement.{statement}
 use Rattle.export.proofs.records.export_write_request.Tie as tie
@@ -16,7 +14,7 @@ same-length c = search needs
 returns : tie.Need-returns
 returns c =
     let wrote = c .before .before .before .write-request .ensures in
-    (c .refusal-of .ensures ∙ ap refusalOf (wrote .0), wrote .1)
+    (rw (c .refusal-of .ensures, wrote .0), wrote .1)
 
 pub export-write-request-spec : {M : Type 1} → statement M
 export-write-request-spec =

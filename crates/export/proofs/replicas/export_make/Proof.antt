@@ -1,5 +1,3 @@
-use mathlib.Core.Path.{ap, _∙_}
-use Rattle.export.specs.Result.{refusalOf}
 use borrow.Author.Needs.{needs}
 use Rattle.export.proofs.replicas.export_make.Statement.{statement}
 use Rattle.export.proofs.replicas.export_make.Tie as tie
@@ -13,7 +11,7 @@ refusal-of-requires c κs = search needs
 returns : tie.Need-returns
 returns c =
     let made = c .before .before .make .ensures in
-    (c .refusal-of .ensures ∙ ap refusalOf (made .0), made .1)
+    (rw (c .refusal-of .ensures, made .0), made .1)
 
 pub export-make-spec : {M : Type 1} → statement M
 export-make-spec = tie.close (tie.spec make-requires refusal-of-requires returns)

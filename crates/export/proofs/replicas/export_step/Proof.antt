@@ -1,6 +1,5 @@
 use mathlib.Core.Path.{ap, _∙_}
-use Rattle.export.specs.Result.{refusalOf}
-use Rattle.question.specs.Question.{given, after, bind}
+use Rattle.question.specs.Question.{given, bind}
 use borrow.Author.Needs.{needs}
 use Rattle.export.proofs.replicas.export_step.Statement.{statement}
 use Rattle.export.proofs.replicas.export_step.Tie as tie
@@ -20,8 +19,11 @@ same-length c = search needs
 returns : tie.Need-returns
 returns c =
     let told = c .before .before .before .before .before .step .ensures in (
-      c .before .refusal-of-step .ensures ∙ ap refusalOf (told .0),
-      (c .sent .ensures ∙ ap (after 0) (told .0), (told .1 .0, (told .1 .1 .0, λ q e. told .1 .1 .1 q (told .0 ∙ ap (λ a. bind a (λ d. given (d .count))) e)))),
+      rw (c .before .refusal-of-step .ensures, told .0),
+      (
+        rw (c .sent .ensures, told .0),
+        (told .1 .0, (told .1 .1 .0, λ q e. told .1 .1 .1 q (told .0 ∙ ap (λ a. bind a (λ d. given (d .count))) e))),
+      ),
     )
 
 pub export-step-spec : {M : Type 1} → statement M

@@ -1,5 +1,3 @@
-use mathlib.Core.Path.{ap, _∙_}
-use Rattle.export.specs.Result.{valueResult}
 use borrow.Author.Needs.{needs}
 use Rattle.export.proofs.votes.export_count_halts.Statement.{statement}
 use Rattle.export.proofs.votes.export_count_halts.Tie as tie
@@ -11,7 +9,7 @@ halt-result-requires : tie.Need-halt-result-requires
 halt-result-requires c κs = search needs
 
 returns : tie.Need-returns
-returns c = c .halt-result .ensures ∙ ap valueResult (c .before .count-halts-in .ensures)
+returns c = rw (c .halt-result .ensures, c .before .count-halts-in .ensures)
 
 pub export-count-halts-spec : {M : Type 1} → statement M
 export-count-halts-spec = tie.close (tie.spec count-halts-in-requires halt-result-requires returns)

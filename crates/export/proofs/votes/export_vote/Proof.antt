@@ -1,5 +1,3 @@
-use mathlib.Core.Path.{ap, _∙_}
-use Rattle.export.specs.Result.{valueResult}
 use borrow.Author.Needs.{needs}
 use Rattle.export.proofs.votes.export_vote.Statement.{statement}
 use Rattle.export.proofs.votes.export_vote.Tie as tie
@@ -11,7 +9,7 @@ vote-result-requires : tie.Need-vote-result-requires
 vote-result-requires c κs = search needs
 
 returns : tie.Need-returns
-returns c = c .vote-result .ensures ∙ ap valueResult (c .before .vote-in .ensures)
+returns c = rw (c .vote-result .ensures, c .before .vote-in .ensures)
 
 pub export-vote-spec : {M : Type 1} → statement M
 export-vote-spec = tie.close (tie.spec vote-in-requires vote-result-requires returns)
