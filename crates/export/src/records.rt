@@ -1,6 +1,6 @@
 // Reading and writing of records.
 ghost use mathlib.Core.Path.{_≡_};
-ghost use Rattle.question.specs.Question.{after, verdict, outcome};
+ghost use Rattle.question.specs.Question.{given, after, verdict, outcome};
 ghost use Rattle.record.specs.Record.{requestAnswer, messageAnswer, readRequest, readMessage, writeRequest, writeMessage};
 ghost use Rattle.replica.specs.State.{blankRequest};
 ghost use Rattle.export.specs.Result.{refusalOf, noMessage, requestResult, messageResult};
@@ -59,14 +59,30 @@ fn no_message() -> Message
     }
 }
 
+// Field by field: a copy of the whole would wait for the reader's narrow stores, a third of its time.
+fn accepted_request(r: Request) -> RequestResult
+    ensures { λ a. ⌜ a ≡ requestResult (given r) ⌝ }
+{
+    let timestamp = r.timestamp;
+    let request = Request {
+        kind: r.kind,
+        group: r.group,
+        process: r.process,
+        variable: r.variable,
+        timestamp,
+        value: r.value,
+    };
+    RequestResult {
+        refusal: 0,
+        request,
+    }
+}
+
 fn request_result(read: RequestRead) -> RequestResult
     ensures { λ r. ⌜ r ≡ requestResult (requestAnswer read) ⌝ }
 {
     match read {
-        RequestRead::Accepted(request) => RequestResult {
-            refusal: 0,
-            request,
-        },
+        RequestRead::Accepted(request) => accepted_request(request),
         RequestRead::Refused(refusal) => RequestResult {
             refusal,
             request: no_request(),
