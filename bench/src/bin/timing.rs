@@ -15,12 +15,14 @@ use bench::model::journal::{delivery_entry, play, setup_entry, step_entry};
 use bench::model::record::{self, Content, Message, MessageFields, Operation, Request};
 use bench::model::replica::Replica;
 use bench::model::vote::{count_halts, vote, Query};
-use bench::model::{by_value, LocalTime, Timestamp, LIST_LIMIT, OUTPUT_SIZE, PENDING_LIMIT};
+use bench::model::{
+    by_value, LocalTime, Refusal, Timestamp, LIST_LIMIT, OUTPUT_SIZE, PENDING_LIMIT,
+};
 use bench::random::Random;
 use bench::traffic::{Cast, Traffic};
 
 /// The best of so many runs counts.
-const BEST_OF: usize = 9;
+const BEST_OF: usize = 50;
 /// Calls in one run.
 const CALLS: usize = 20_000;
 /// Copies of a prepared replica, each stepped once in a run.
@@ -268,19 +270,31 @@ fn votes() {
     let messages: Vec<MessageFields> =
         (0..LIST_LIMIT).map(|i| reply(1 + (i % 3) as u8, 7).fields()).collect();
     let list = to_list(&messages, MessageFields::default());
+    let fixed: [MessageFields; LIST_LIMIT] = std::array::from_fn(|i| messages[i]);
     let calls = CALLS / 10;
     let verified = best(calls, || {
         for _ in 0..calls {
             see(&ffi::vote(K, GROUPS, query.into(), *black_box(&list)));
         }
     });
-    let model = best(calls, || {
+    let by_reference = best(calls, || {
         for _ in 0..calls {
             see(&vote(K, GROUPS, &query, black_box(&messages)));
         }
     });
-    print_row("vote over 64 messages", verified, model);
+    let by_value = best(calls, || {
+        for _ in 0..calls {
+            see(&vote_by_value(&query, *black_box(&fixed)));
+        }
+    });
+    print_row("vote over 64 messages (&)", verified, by_reference);
+    print_row("vote over 64 messages (value)", verified, by_value);
     halts(&messages);
+}
+
+#[inline(never)]
+fn vote_by_value(query: &Query, list: [MessageFields; LIST_LIMIT]) -> Result<u32, Refusal> {
+    vote(K, GROUPS, query, black_box(&list))
 }
 
 fn halts(replies: &[MessageFields]) {
