@@ -8,7 +8,7 @@ use Rattle.export.specs.declared.records.MessageResult.{MessageResult}
 use Rattle.export.specs.declared.records.RequestResult.{RequestResult}
 use Rattle.export.specs.declared.votes.ValueResult.{ValueResult}
 
--- document 01 numbers no refusal 0
+-- no refusal has the number 0: proofs/Numbers.antt
 abbrev pub refusalOf : {A : Type 0} → Answer A → ℕ
 refusalOf (given a) = 0
 refusalOf (refused number) = number
