@@ -59,7 +59,7 @@ fn no_message() -> Message
     }
 }
 
-// Field by field: a copy of the whole would wait for the reader's narrow stores, a third of its time.
+// Field by field: a copy of the whole would wait for the reader's narrow stores.
 fn accepted_request(r: Request) -> RequestResult
     ensures { λ a. ⌜ a ≡ requestResult (given r) ⌝ }
 {

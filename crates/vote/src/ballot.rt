@@ -11,8 +11,8 @@ const REPLY: u8 = 3;
 const HALT: u8 = 4;
 
 pub struct Ballot {
-    // The value of its first counting reply, and whose came. The widest stand first: with no gap
-    // between them a ballot is copied twice as fast.
+    // The value of its first counting reply, and whose came. The widest stand first: copies of a
+    // ballot with gaps in it wait for each other, and a vote takes twice as long.
     pub values: [u32; 8],
     pub heard: [bool; 8],
     // Whose counting halt came.
