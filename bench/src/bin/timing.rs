@@ -1,6 +1,7 @@
 //! Benchmarks: the verified implementation against the model, same inputs,
 //! best of several runs.
 
+use std::fmt;
 use std::fs::File;
 use std::hint::black_box;
 use std::io::{self, BufWriter, Write};
@@ -15,12 +16,16 @@ use bench::model::journal::{delivery_entry, play, setup_entry, step_entry};
 use bench::model::record::{self, Content, Message, MessageFields, Operation, Request};
 use bench::model::replica::Replica;
 use bench::model::vote::{count_halts, vote, Query};
-use bench::model::{by_value, LocalTime, Timestamp, LIST_LIMIT, OUTPUT_SIZE, PENDING_LIMIT};
+use bench::model::{
+    by_value, LocalTime, Refusal, Timestamp, LIST_LIMIT, OUTPUT_SIZE, PENDING_LIMIT,
+};
 use bench::random::Random;
 use bench::traffic::{Cast, Traffic};
 
-/// The best of so many runs counts.
-const BEST_OF: usize = 9;
+/// The best of so many runs counts, in each of the rounds: both sides come again
+/// and again, so that a busy moment of the machine does not fall on one of them.
+const BEST_OF: usize = 5;
+const ROUNDS: usize = 20;
 /// Calls in one run.
 const CALLS: usize = 20_000;
 /// Copies of a prepared replica, each stepped once in a run.
@@ -34,17 +39,41 @@ const OWNER: u8 = 1;
 const DELTA: u64 = 5;
 
 fn main() -> io::Result<()> {
-    println!("timing, {}: best of {BEST_OF}, in ns for one call", bench::other_side());
-    println!("{:<38} {:>9} {:>9} {:>7}", "", "verified", "model", "ratio");
-    records();
-    delivery();
-    steps();
-    votes();
+    println!("timing, {}: best of {}, in ns for one call", bench::other_side(), BEST_OF * ROUNDS);
+    let mut table = Table::default();
+    for _ in 0..ROUNDS {
+        records(&mut table);
+        delivery(&mut table);
+        steps(&mut table);
+        votes(&mut table);
+    }
+    print!("{table}");
     journal()
 }
 
-fn print_row(what: &str, verified: f64, model: f64) {
-    println!("{what:<38} {verified:>9.1} {model:>9.1} {:>7.2}", verified / model);
+/// The best times of the two sides for each row.
+#[derive(Default)]
+struct Table {
+    rows: Vec<(String, f64, f64)>,
+}
+
+impl Table {
+    fn note(&mut self, what: &str, verified: f64, model: f64) {
+        match self.rows.iter_mut().find(|row| row.0 == what) {
+            Some(row) => *row = (what.to_owned(), row.1.min(verified), row.2.min(model)),
+            None => self.rows.push((what.to_owned(), verified, model)),
+        }
+    }
+}
+
+impl fmt::Display for Table {
+    fn fmt(&self, f: &mut fmt::Formatter<'_>) -> fmt::Result {
+        writeln!(f, "{:<38} {:>9} {:>9} {:>7}", "", "verified", "model", "ratio")?;
+        for (what, verified, model) in &self.rows {
+            writeln!(f, "{what:<38} {verified:>9.1} {model:>9.1} {:>7.2}", verified / model)?;
+        }
+        Ok(())
+    }
 }
 
 /// The best time of one call in ns, where `work` makes `calls` of them.
@@ -73,14 +102,14 @@ fn reply(replica: u8, value: u32) -> Message {
     Message { group: OWNER, process: 1, replica, timestamp: Timestamp(10), content }
 }
 
-fn records() {
+fn records(table: &mut Table) {
     let requests: Vec<Request> =
         (0..64).map(|i| request(1 + (i & 1) as u8, i, Operation::Write(i as u32))).collect();
     let messages: Vec<Message> = (0..64).map(|i| reply(1 + (i % 3) as u8, i)).collect();
-    read_requests(&requests);
-    read_messages(&messages);
-    write_requests(&requests);
-    write_messages(&messages);
+    read_requests(table, &requests);
+    read_messages(table, &messages);
+    write_requests(table, &requests);
+    write_messages(table, &messages);
 }
 
 /// Lets nobody leave a result out.
@@ -95,7 +124,7 @@ fn in_turn<T>(items: &[T], mut work: impl FnMut(&T)) {
     }
 }
 
-fn read_requests(requests: &[Request]) {
+fn read_requests(table: &mut Table, requests: &[Request]) {
     let bytes: Vec<[u8; 24]> = requests.iter().map(Request::encode).collect();
     let verified = best(CALLS, || {
         in_turn(&bytes, |b| see(&ffi::read_request(K, GROUPS, b)));
@@ -103,10 +132,10 @@ fn read_requests(requests: &[Request]) {
     let model = best(CALLS, || {
         in_turn(&bytes, |b| see(&record::read_request(K, GROUPS, b)));
     });
-    print_row("read a request", verified, model);
+    table.note("read a request", verified, model);
 }
 
-fn read_messages(messages: &[Message]) {
+fn read_messages(table: &mut Table, messages: &[Message]) {
     let bytes: Vec<[u8; 24]> = messages.iter().map(Message::encode).collect();
     let verified = best(CALLS, || {
         in_turn(&bytes, |b| see(&ffi::read_message(K, GROUPS, b)));
@@ -114,10 +143,10 @@ fn read_messages(messages: &[Message]) {
     let model = best(CALLS, || {
         in_turn(&bytes, |b| see(&record::read_message(K, GROUPS, b)));
     });
-    print_row("read a message", verified, model);
+    table.note("read a message", verified, model);
 }
 
-fn write_requests(requests: &[Request]) {
+fn write_requests(table: &mut Table, requests: &[Request]) {
     let mut place = [0; 24];
     let fields: Vec<_> = requests.iter().map(Request::fields).collect();
     let structs: Vec<ffi::Request> = fields.iter().map(|f| (*f).into()).collect();
@@ -131,10 +160,10 @@ fn write_requests(requests: &[Request]) {
             see(&record::write_request(K, GROUPS, f, black_box(&mut place)));
         });
     });
-    print_row("write a request", verified, model);
+    table.note("write a request", verified, model);
 }
 
-fn write_messages(messages: &[Message]) {
+fn write_messages(table: &mut Table, messages: &[Message]) {
     let mut place = [0; 24];
     let fields: Vec<_> = messages.iter().map(Message::fields).collect();
     let structs: Vec<ffi::Message> = fields.iter().map(|f| (*f).into()).collect();
@@ -148,7 +177,7 @@ fn write_messages(messages: &[Message]) {
             see(&record::write_message(K, GROUPS, f, black_box(&mut place)));
         });
     });
-    print_row("write a message", verified, model);
+    table.note("write a message", verified, model);
 }
 
 fn new_model() -> Replica {
@@ -160,7 +189,7 @@ fn new_by_value() -> by_value::Replica {
 }
 
 /// Fills a new replica, again and again.
-fn delivery() {
+fn delivery(table: &mut Table) {
     let bytes: Vec<[u8; 24]> =
         (0..PENDING_LIMIT as u64).map(|i| request(1, i, Operation::Read).encode()).collect();
     let rounds = CALLS / PENDING_LIMIT;
@@ -168,8 +197,8 @@ fn delivery() {
     let verified = best(calls, || (0..rounds).for_each(|_| fill_verified(&bytes)));
     let by_reference = best(calls, || (0..rounds).for_each(|_| fill_model(&bytes)));
     let by_value = best(calls, || (0..rounds).for_each(|_| fill_by_value(&bytes)));
-    print_row("deliver (model: &mut)", verified, by_reference);
-    print_row("deliver (model: by value)", verified, by_value);
+    table.note("deliver (model: &mut)", verified, by_reference);
+    table.note("deliver (model: by value)", verified, by_value);
 }
 
 fn fill_verified(bytes: &[[u8; 24]]) {
@@ -200,18 +229,18 @@ fn fill_by_value(bytes: &[[u8; 24]]) {
     see(&replica);
 }
 
-fn steps() {
+fn steps(table: &mut Table) {
     let unstable: Vec<Request> = (0..16).map(|i| request(1, i, Operation::Read)).collect();
     let one_batch: Vec<Request> = (0..16).map(|_| request(1, 10, Operation::Read)).collect();
     let many: Vec<Request> = (0..64).map(|i| request(1, i, Operation::Read)).collect();
-    step("step, nothing pending", &[], 106);
-    step("step, 16 pending, none stable", &unstable, 105);
-    step("step, one batch of 16 reads", &one_batch, 106);
-    step("step, 64 batches of one read", &many, 106);
+    step(table, "step, nothing pending", &[], 106);
+    step(table, "step, 16 pending, none stable", &unstable, 105);
+    step(table, "step, one batch of 16 reads", &one_batch, 106);
+    step(table, "step, 64 batches of one read", &many, 106);
 }
 
 /// A step of replicas that got the requests at 100.
-fn step(what: &str, requests: &[Request], at: u64) {
+fn step(table: &mut Table, what: &str, requests: &[Request], at: u64) {
     let mut model = new_model();
     let mut fixed = new_by_value();
     for request in requests {
@@ -221,8 +250,8 @@ fn step(what: &str, requests: &[Request], at: u64) {
     let verified = step_verified(to_replica(&model), at);
     let by_reference = step_model(&model, at);
     let by_value = step_by_value(fixed, at);
-    print_row(&format!("{what} (&mut)"), verified, by_reference);
-    print_row(&format!("{what} (value)"), verified, by_value);
+    table.note(&format!("{what} (&mut)"), verified, by_reference);
+    table.note(&format!("{what} (value)"), verified, by_value);
 }
 
 fn step_verified(replica: ffi::Replica, at: u64) -> f64 {
@@ -263,27 +292,39 @@ fn step_by_value(replica: by_value::Replica, at: u64) -> f64 {
 }
 
 /// A vote and a halt count over 64 messages.
-fn votes() {
+fn votes(table: &mut Table) {
     let query = Query { group: OWNER, process: 1, variable: 4, timestamp: Timestamp(10) };
     let messages: Vec<MessageFields> =
         (0..LIST_LIMIT).map(|i| reply(1 + (i % 3) as u8, 7).fields()).collect();
     let list = to_list(&messages, MessageFields::default());
+    let fixed: [MessageFields; LIST_LIMIT] = std::array::from_fn(|i| messages[i]);
     let calls = CALLS / 10;
     let verified = best(calls, || {
         for _ in 0..calls {
             see(&ffi::vote(K, GROUPS, query.into(), *black_box(&list)));
         }
     });
-    let model = best(calls, || {
+    let by_reference = best(calls, || {
         for _ in 0..calls {
             see(&vote(K, GROUPS, &query, black_box(&messages)));
         }
     });
-    print_row("vote over 64 messages", verified, model);
-    halts(&messages);
+    let by_value = best(calls, || {
+        for _ in 0..calls {
+            see(&vote_by_value(&query, *black_box(&fixed)));
+        }
+    });
+    table.note("vote over 64 messages (&)", verified, by_reference);
+    table.note("vote over 64 messages (value)", verified, by_value);
+    halts(table, &messages);
 }
 
-fn halts(replies: &[MessageFields]) {
+#[inline(never)]
+fn vote_by_value(query: &Query, list: [MessageFields; LIST_LIMIT]) -> Result<u32, Refusal> {
+    vote(K, GROUPS, query, black_box(&list))
+}
+
+fn halts(table: &mut Table, replies: &[MessageFields]) {
     let halt = |m: &MessageFields| MessageFields { kind: 4, variable: 0, value: 0, ..*m };
     let messages: Vec<MessageFields> = replies.iter().map(halt).collect();
     let list = to_list(&messages, MessageFields::default());
@@ -298,7 +339,7 @@ fn halts(replies: &[MessageFields]) {
             see(&count_halts(K, GROUPS, OWNER, 1, black_box(&messages)));
         }
     });
-    print_row("halt count over 64 messages", verified, model);
+    table.note("halt count over 64 messages", verified, model);
 }
 
 /// A long ordinary journal through the program and through the model.
@@ -355,9 +396,11 @@ fn write_journal(path: &Path) -> io::Result<()> {
 }
 
 fn compare_journals(path: &Path) -> io::Result<()> {
-    let verified = best_of_3(|| play_outside(path))?;
-    let model = best_of_3(|| play_model(path))?;
-    println!("{:<38} {:>9} {:>9} {:>7}", "", "verified", "model", "ratio");
+    let (mut verified, mut model) = (f64::INFINITY, f64::INFINITY);
+    for _ in 0..3 {
+        verified = verified.min(seconds(|| play_outside(path))?);
+        model = model.min(seconds(|| play_model(path))?);
+    }
     let rate = |seconds: f64| JOURNAL_RECORDS as f64 / seconds / 1e6;
     println!(
         "{:<38} {:>9.3} {:>9.3} {:>7.2}",
@@ -366,23 +409,17 @@ fn compare_journals(path: &Path) -> io::Result<()> {
         rate(model),
         rate(verified) / rate(model)
     );
-    print_row(
-        "journal, ns for one record",
-        verified / JOURNAL_RECORDS as f64 * 1e9,
-        model / JOURNAL_RECORDS as f64 * 1e9,
-    );
+    let mut table = Table::default();
+    let each = |seconds: f64| seconds / JOURNAL_RECORDS as f64 * 1e9;
+    table.note("journal, ns for one record", each(verified), each(model));
+    print!("{table}");
     Ok(())
 }
 
-/// The least time in seconds.
-fn best_of_3(work: impl Fn() -> io::Result<()>) -> io::Result<f64> {
-    let mut least = f64::INFINITY;
-    for _ in 0..3 {
-        let start = Instant::now();
-        work()?;
-        least = least.min(start.elapsed().as_secs_f64());
-    }
-    Ok(least)
+fn seconds(work: impl Fn() -> io::Result<()>) -> io::Result<f64> {
+    let start = Instant::now();
+    work()?;
+    Ok(start.elapsed().as_secs_f64())
 }
 
 fn play_outside(path: &Path) -> io::Result<()> {

@@ -11,23 +11,24 @@ const REPLY: u8 = 3;
 const HALT: u8 = 4;
 
 pub struct Ballot {
-    // Question 16: the list has at most 64 messages.
-    pub short: bool,
-    // Whose first counting reply came, and its value.
-    pub heard: [bool; 8],
+    // The value of its first counting reply, and whose came. The widest stand first: copies of a
+    // ballot with gaps in it wait for each other, and a vote takes twice as long.
     pub values: [u32; 8],
+    pub heard: [bool; 8],
     // Whose counting halt came.
     pub halted: [bool; 8],
+    // Question 16: the list has at most 64 messages.
+    pub short: bool,
 }
 
 pub fn new_ballot(length: usize) -> Ballot
     ensures { λ r. ⌜ r ≡ newBallot length ⌝ }
 {
     Ballot {
-        short: length <= 64,
-        heard: [false; 8],
         values: [0u32; 8],
+        heard: [false; 8],
         halted: [false; 8],
+        short: length <= 64,
     }
 }
 

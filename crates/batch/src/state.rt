@@ -6,6 +6,7 @@ ghost use Rattle.batch.specs.State.{waiting};
 use record::LocalTime;
 use rules::Pending;
 
+#[repr(C)]
 pub struct Replica {
     pub k: u8,
     // Document 01's N.

@@ -17,6 +17,7 @@ use question::ask;
 use question::check_unit;
 use question::is_within;
 
+#[repr(C)]
 pub struct Message {
     pub kind: u8,
     pub group: u8,
