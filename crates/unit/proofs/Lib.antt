@@ -2,3 +2,4 @@ pub mod Lists
 pub mod Places
 pub mod Lines
 pub mod Whole
+pub mod Plays

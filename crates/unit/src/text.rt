@@ -77,7 +77,8 @@ fn put_first_four(l: Line, m: Message) -> Line
 }
 
 pub fn message_line(m: Message) -> Line
-    ensures { λ l. ⌜ textOf l ≡ messageLine m ⌝ }
+    ensures text { λ l. ⌜ textOf l ≡ messageLine m ⌝ }
+    ensures long { λ l. ⌜ l .length ≤ 160 ⌝ }
 {
     if m.kind == REPLY {
         let a = put_first_four(new_line(b"reply"), m);
@@ -88,14 +89,16 @@ pub fn message_line(m: Message) -> Line
 }
 
 pub fn refusal_line(place: u64, number: u8) -> Line
-    ensures { λ l. ⌜ textOf l ≡ refusalLine place number ⌝ }
+    ensures text { λ l. ⌜ textOf l ≡ refusalLine place number ⌝ }
+    ensures long { λ l. ⌜ l .length ≤ 160 ⌝ }
 {
     let a = put_number(new_line(b"no"), place);
     end_line(put_number(a, number as u64))
 }
 
 pub fn card_line(r: Replica) -> Line
-    ensures { λ l. ⌜ textOf l ≡ cardLine (stateOf r) ⌝ }
+    ensures text { λ l. ⌜ textOf l ≡ cardLine (stateOf r) ⌝ }
+    ensures long { λ l. ⌜ l .length ≤ 160 ⌝ }
 {
     let failed = r.variables[0] as u64;
     let writes = r.writes;

@@ -1,7 +1,8 @@
 // What a record of the journal does to its replica.
+ghost use Prim.Native.Nat.{ℕ};
 ghost use mathlib.Core.Path.{_≡_};
 ghost use lib.ListN.{take, drop};
-ghost use Rattle.question.specs.Question.{given, bind, after, verdict, outcome};
+ghost use Rattle.question.specs.Question.{given, refused, bind, after, verdict, outcome};
 ghost use Rattle.rules.specs.Replica.{deliver, step};
 ghost use Rattle.replica.specs.State.{stateOf, stepAnswer};
 ghost use Rattle.unit.specs.Entry.{entryAnswer, playOn};
@@ -21,6 +22,7 @@ pub struct Played {
 fn deliver_part(r: Replica, at: LocalTime, bytes: &[u8]) -> Delivered
     ensures answer { λ d. ⌜ outcome (d .outcome) ≡ verdict (deliver (stateOf r) (take 24 (drop 16 (now (bytes .entry)))) at) ⌝ }
     ensures state { λ d. ⌜ stateOf (d .replica) ≡ after (stateOf r) (deliver (stateOf r) (take 24 (drop 16 (now (bytes .entry)))) at) ⌝ }
+    ensures kept { λ d. ⌜ ((q : ℕ) → outcome (d .outcome) ≡ refused q → d .replica ≡ r) ⌝ }
 {
     if bytes.len() < 16 {
         return replica::deliver(r, &bytes[0..0], at);
@@ -34,6 +36,7 @@ fn deliver_part(r: Replica, at: LocalTime, bytes: &[u8]) -> Delivered
 fn play_delivery(r: Replica, at: LocalTime, bytes: &[u8]) -> Played
     ensures answer { λ p. ⌜ stepAnswer (p .answer) ≡ bind (deliver (stateOf r) (take 24 (drop 16 (now (bytes .entry)))) at) (λ _. given 0) ⌝ }
     ensures state { λ p. ⌜ stateOf (p .replica) ≡ after (stateOf r) (deliver (stateOf r) (take 24 (drop 16 (now (bytes .entry)))) at) ⌝ }
+    ensures kept { λ p. ⌜ ((q : ℕ) → stepAnswer (p .answer) ≡ refused q → p .replica ≡ r) ⌝ }
 {
     let d = deliver_part(r, at, bytes);
     let replica = d.replica;
@@ -54,6 +57,7 @@ fn play_turn(r: Replica, at: LocalTime, output: &mut [u8]) -> Played
     ensures answer { λ p. ⌜ stepAnswer (p .answer) ≡ bind (step (stateOf r) at (now (output .entry))) (λ d. given (d .count)) ⌝ }
     ensures state { λ p. ⌜ stateOf (p .replica) ≡ after (stateOf r) (bind (step (stateOf r) at (now (output .entry))) (λ d. given (d .state))) ⌝ }
     ensures output { λ p. ⌜ now (output .exit) ≡ after (now (output .entry)) (bind (step (stateOf r) at (now (output .entry))) (λ d. given (d .output))) ⌝ }
+    ensures kept { λ p. ⌜ ((q : ℕ) → stepAnswer (p .answer) ≡ refused q → p .replica ≡ r) ⌝ }
 {
     let s = replica::step(r, at, output);
     let answer = s.answer;
@@ -66,6 +70,7 @@ pub fn play_entry(r: Replica, e: EntryRead, bytes: &[u8], output: &mut [u8]) -> 
     ensures answer { λ p. ⌜ stepAnswer (p .answer) ≡ bind (playOn (stateOf r) (entryAnswer (now (bytes .entry)) e) (now (output .entry))) (λ d. given (d .count)) ⌝ }
     ensures state { λ p. ⌜ stateOf (p .replica) ≡ after (stateOf r) (bind (playOn (stateOf r) (entryAnswer (now (bytes .entry)) e) (now (output .entry))) (λ d. given (d .state))) ⌝ }
     ensures output { λ p. ⌜ now (output .exit) ≡ after (now (output .entry)) (bind (playOn (stateOf r) (entryAnswer (now (bytes .entry)) e) (now (output .entry))) (λ d. given (d .output))) ⌝ }
+    ensures kept { λ p. ⌜ ((q : ℕ) → stepAnswer (p .answer) ≡ refused q → p .replica ≡ r) ⌝ }
 {
     match e {
         EntryRead::Delivery(_, at) => play_delivery(r, at, bytes),
