@@ -3,3 +3,4 @@ pub mod Places
 pub mod Lines
 pub mod Whole
 pub mod Plays
+pub mod Pages

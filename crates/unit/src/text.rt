@@ -76,7 +76,7 @@ fn put_first_four(l: Line, m: Message) -> Line
     put_number(c, m.timestamp.0)
 }
 
-pub fn message_line(m: Message) -> Line
+pub(crate) fn message_line(m: Message) -> Line
     ensures text { λ l. ⌜ textOf l ≡ messageLine m ⌝ }
     ensures long { λ l. ⌜ l .length ≤ 160 ⌝ }
 {
@@ -88,7 +88,7 @@ pub fn message_line(m: Message) -> Line
     end_line(put_first_four(new_line(b"halt"), m))
 }
 
-pub fn refusal_line(place: u64, number: u8) -> Line
+pub(crate) fn refusal_line(place: u64, number: u8) -> Line
     ensures text { λ l. ⌜ textOf l ≡ refusalLine place number ⌝ }
     ensures long { λ l. ⌜ l .length ≤ 160 ⌝ }
 {
@@ -96,7 +96,7 @@ pub fn refusal_line(place: u64, number: u8) -> Line
     end_line(put_number(a, number as u64))
 }
 
-pub fn card_line(r: Replica) -> Line
+pub(crate) fn card_line(r: Replica) -> Line
     ensures text { λ l. ⌜ textOf l ≡ cardLine (stateOf r) ⌝ }
     ensures long { λ l. ⌜ l .length ≤ 160 ⌝ }
 {
