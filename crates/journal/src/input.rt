@@ -1,8 +1,11 @@
-// The journal's input, read in blocks of 1,600 records.
+// A journal's input, read in blocks of 1,600 records.
 ghost use Prim.Native.Nat.{_≤_};
+ghost use mathlib.Core.Path.{_≡_};
 ghost use lib.ListN.{length};
 
-// A record stands in the block from `from` to `to`, of `filled` bytes that are held; at the end of
+const STDERR: i32 = 2;
+
+// A record stands in the block from `from` to `to`, of `filled` bytes that are held. At the end of
 // the input it is empty, and the last one may be short.
 pub struct Span {
     pub from: usize,
@@ -24,22 +27,24 @@ fn least(a: usize, b: usize) -> usize
 }
 
 // Reads until the block is full, the input ends or a read fails.
-fn fill(block: &mut [u8; 64000]) -> Filled
+fn fill(file: i32, block: &mut [u8]) -> Filled
+    requires { ⌜ length (now block) ≡ 64000 ⌝ }
     ensures { λ f. ⌜ f .count ≤ 64000 ⌝ }
 {
     let mut count: usize = 0;
     while count < 64000 {
-        let got = libc::read(0, &mut block[count..]);
+        let got = libc::read(file, &mut block[count..]);
         if got < 0 {
             return Filled {
                 count,
                 failed: true,
             };
         }
-        if got == 0 {
+        let more = io::count(got, &block[count..]);
+        if more == 0 {
             break;
         }
-        count += least(got as usize, 64000 - count);
+        count += more;
     }
     Filled {
         count,
@@ -60,20 +65,30 @@ fn span_from(at: usize, filled: usize, failed: bool) -> Span
     }
 }
 
-// The next record; where the block is used up, it is filled again.
-pub(crate) fn next_record(block: &mut [u8; 64000], at: usize, filled: usize) -> Span
+// Before the first record.
+pub(crate) fn no_record() -> Span
+    ensures { λ s. ⌜ s .filled ≤ 64000 ⌝ }
+{
+    Span {
+        from: 0,
+        to: 0,
+        filled: 0,
+        failed: false,
+    }
+}
+
+// The record after one; where the block is used up, it is filled again.
+pub(crate) fn next_record(file: i32, block: &mut [u8], last: Span) -> Span
+    requires { ⌜ (length (now block) ≡ 64000) × (last .filled ≤ 64000) ⌝ }
     ensures { λ s. ⌜ (s .from ≤ s .to) × ((s .to ≤ s .filled) × (s .filled ≤ 64000)) ⌝ }
 {
-    if 64000 < filled {
-        return span_from(0, 0, false);
+    if last.to < last.filled {
+        return span_from(last.to, last.filled, false);
     }
-    if at < filled {
-        return span_from(at, filled, false);
-    }
-    let f = fill(block);
+    let f = fill(file, block);
     span_from(0, f.count, f.failed)
 }
 
-pub(crate) fn report_failure() {
-    io::write_all(2, b"journal: cannot read\n");
+pub(crate) fn report_unread() {
+    io::write_all(STDERR, b"journal: cannot read\n");
 }
