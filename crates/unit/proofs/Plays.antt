@@ -1,22 +1,47 @@
 -- What a delivery answers as an entry of the journal, and the bytes of its request. Assumes nothing.
-use Prim.Native.Nat.{ℕ, _-_, _<_}
+use Prim.Native.Nat.{ℕ, _-_, min}
 use mathlib.Core.Path.{_≡_, refl, sym, _∙_}
+use mathlib.Core.Bool.{Bool, true, false}
 use mathlib.Core.List.{List, []}
+use lib.Dec.{leb}
 use lib.ListN.{length, take, drop, length-drop, drop-of-length-le}
 use lib.Seq.{take-all, take-nil}
 use native.Mathlib.Omega.{arith}
+use borrow.Author.Tests.{leb-true, leb-false}
 use Rattle.question.specs.Question.{Answer, given, refused, Worked, bind, next, after, verdict}
 use Rattle.rules.specs.Replica.{State, Stepped}
 
 -- ── the request ──
 
-pub no-request : (bytes : List ℕ) → length bytes < 16 → [] ≡ take 24 (drop 16 bytes)
-no-request bytes short = rw (drop-of-length-le bytes {i = 16} (omega arith)) (sym (take-nil 24))
+-- a record's bytes 16 to 39, as far as it has them
+module _ (bytes : List ℕ) where
+  abbrev start : ℕ
+  start = min (length bytes) 16
 
-pub part-request : (bytes : List ℕ) → length bytes < 40 → take (length bytes - 16) (drop 16 bytes) ≡ take 24 (drop 16 bytes)
-part-request bytes short =
-    let long = length-drop 16 bytes in
-    take-all (length bytes - 16) (drop 16 bytes) (omega (arith, long)) ∙ sym (take-all 24 (drop 16 bytes) (omega (arith, long)))
+  abbrev end : ℕ
+  end = min (length bytes) 40
+
+  long : (b : Bool) → leb (length bytes) 40 ≡ b → take (end - 16) (drop 16 bytes) ≡ take 24 (drop 16 bytes)
+  long true e =
+      let short = leb-true (length bytes) 40 e in
+      let rest = length-drop 16 bytes in
+      take-all (end - 16) (drop 16 bytes) (omega (arith, rest)) ∙ sym (take-all 24 (drop 16 bytes) (omega (arith, rest)))
+  long false e =
+      let past = leb-false (length bytes) 40 e in
+      let all : end - 16 ≡ 24 = omega arith in
+      rw all
+
+  part : (b : Bool) → leb (length bytes) 16 ≡ b → take (end - start) (drop start bytes) ≡ take 24 (drop 16 bytes)
+  part true e =
+      let short = leb-true (length bytes) 16 e in
+      rw (drop-of-length-le bytes {i = start} (omega arith), drop-of-length-le bytes {i = 16} short, take-nil (end - start), take-nil 24)
+  part false e =
+      let past = leb-false (length bytes) 16 e in
+      let first : start ≡ 16 = omega arith in
+      rw first (long (leb (length bytes) 40) refl)
+
+  pub request-part : take (end - start) (drop start bytes) ≡ take 24 (drop 16 bytes)
+  request-part = part (leb (length bytes) 16) refl
 
 -- ── the answer ──
 

@@ -1,15 +1,14 @@
 // What a record of the journal does to its replica.
-ghost use Prim.Native.Nat.{ℕ};
+ghost use Prim.Native.Nat.{ℕ, min};
 ghost use mathlib.Core.Path.{_≡_};
 ghost use lib.ListN.{take, drop};
-ghost use Rattle.question.specs.Question.{given, refused, bind, after, verdict, outcome};
+ghost use Rattle.question.specs.Question.{given, refused, bind, after};
 ghost use Rattle.rules.specs.Replica.{deliver, step};
 ghost use Rattle.replica.specs.State.{stateOf, stepAnswer};
 ghost use Rattle.unit.specs.Entry.{entryAnswer, playOn};
 use crate::entry::EntryRead;
 use question::Outcome;
 use record::LocalTime;
-use replica::Delivered;
 use replica::Replica;
 use replica::StepAnswer;
 
@@ -18,27 +17,21 @@ pub struct Played {
     pub replica: Replica,
 }
 
-// A delivery of bytes 16 to 39; a shorter record has those that it has.
-fn deliver_part(r: Replica, at: LocalTime, bytes: &[u8]) -> Delivered
-    ensures answer { λ d. ⌜ outcome (d .outcome) ≡ verdict (deliver (stateOf r) (take 24 (drop 16 (now (bytes .entry)))) at) ⌝ }
-    ensures state { λ d. ⌜ stateOf (d .replica) ≡ after (stateOf r) (deliver (stateOf r) (take 24 (drop 16 (now (bytes .entry)))) at) ⌝ }
-    ensures kept { λ d. ⌜ ((q : ℕ) → outcome (d .outcome) ≡ refused q → d .replica ≡ r) ⌝ }
+fn least(a: usize, b: usize) -> usize
+    ensures { λ r. ⌜ r ≡ min a b ⌝ }
 {
-    if bytes.len() < 16 {
-        return replica::deliver(r, &bytes[0..0], at);
-    }
-    if bytes.len() < 40 {
-        return replica::deliver(r, &bytes[16..], at);
-    }
-    replica::deliver(r, &bytes[16..40], at)
+    if a < b { a } else { b }
 }
 
+// A delivery of bytes 16 to 39; a shorter record has those that it has.
 fn play_delivery(r: Replica, at: LocalTime, bytes: &[u8]) -> Played
     ensures answer { λ p. ⌜ stepAnswer (p .answer) ≡ bind (deliver (stateOf r) (take 24 (drop 16 (now (bytes .entry)))) at) (λ _. given 0) ⌝ }
     ensures state { λ p. ⌜ stateOf (p .replica) ≡ after (stateOf r) (deliver (stateOf r) (take 24 (drop 16 (now (bytes .entry)))) at) ⌝ }
     ensures kept { λ p. ⌜ ((q : ℕ) → stepAnswer (p .answer) ≡ refused q → p .replica ≡ r) ⌝ }
 {
-    let d = deliver_part(r, at, bytes);
+    let start = least(bytes.len(), 16);
+    let end = least(bytes.len(), 40);
+    let d = replica::deliver(r, &bytes[start..end], at);
     let replica = d.replica;
     let outcome = d.outcome;
     match outcome {
