@@ -53,6 +53,10 @@ pub nothing-sent : {A : Type 0} (alone : Answer Worked) (answer : Answer A) →
 nothing-sent alone (given a) e = rw e
 nothing-sent alone (refused number) e = rw e
 
+pub refused-next : (alone : Answer Worked) (q : ℕ) → next {B = ℕ} alone (given 0) ≡ refused q → alone ≡ refused q
+refused-next (given done) q e = absurd (let z : _≡_ {A = ℕ} 0 1 = cc in omega arith)
+refused-next (refused number) q e = cc
+
 pub count-delivered : (output : List ℕ) (answer : Answer State) →
     bind {B = ℕ} answer (λ _. given 0) ≡ bind (sentNothing output answer) (λ d. given (d .count))
 count-delivered output (given t) = refl

@@ -2,7 +2,7 @@
 ghost use Prim.Native.Nat.{ℕ, min};
 ghost use mathlib.Core.Path.{_≡_};
 ghost use lib.ListN.{take, drop};
-ghost use Rattle.question.specs.Question.{given, refused, bind, after};
+ghost use Rattle.question.specs.Question.{given, refused, bind, after, next, outcome};
 ghost use Rattle.rules.specs.Replica.{deliver, step};
 ghost use Rattle.replica.specs.State.{stateOf, stepAnswer};
 ghost use Rattle.unit.specs.Entry.{entryAnswer, playOn};
@@ -23,6 +23,16 @@ fn least(a: usize, b: usize) -> usize
     if a < b { a } else { b }
 }
 
+// A delivery sends no message.
+fn nothing_sent(o: Outcome) -> StepAnswer
+    ensures { λ a. ⌜ stepAnswer a ≡ next (outcome o) (given 0) ⌝ }
+{
+    match o {
+        Outcome::Done => StepAnswer::Sent(0),
+        Outcome::Refused(number) => StepAnswer::Refused(number),
+    }
+}
+
 // A delivery of bytes 16 to 39; a shorter record has those that it has.
 fn play_delivery(r: Replica, at: LocalTime, bytes: &[u8]) -> Played
     ensures answer { λ p. ⌜ stepAnswer (p .answer) ≡ bind (deliver (stateOf r) (take 24 (drop 16 (now (bytes .entry)))) at) (λ _. given 0) ⌝ }
@@ -32,18 +42,10 @@ fn play_delivery(r: Replica, at: LocalTime, bytes: &[u8]) -> Played
     let start = least(bytes.len(), 16);
     let end = least(bytes.len(), 40);
     let d = replica::deliver(r, &bytes[start..end], at);
-    let replica = d.replica;
     let outcome = d.outcome;
-    match outcome {
-        Outcome::Done => Played {
-            answer: StepAnswer::Sent(0),
-            replica,
-        },
-        Outcome::Refused(number) => Played {
-            answer: StepAnswer::Refused(number),
-            replica,
-        },
-    }
+    let answer = nothing_sent(outcome);
+    let replica = d.replica;
+    Played { answer, replica }
 }
 
 fn play_turn(r: Replica, at: LocalTime, output: &mut [u8]) -> Played

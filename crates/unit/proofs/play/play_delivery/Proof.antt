@@ -1,12 +1,10 @@
 -- The part that is lent is the record's request.
-use Prim.Native.Nat.{ℕ}
-use mathlib.Core.Path.{_≡_, ap}
-use native.Mathlib.Omega.{arith}
+use mathlib.Core.Path.{_≡_, sym, _∙_}
 use lib.ListN.{take, drop}
 use Rattle.question.specs.Question.{Answer, after, verdict, outcome}
 use Rattle.rules.specs.Replica.{State, deliver}
 use Rattle.replica.specs.State.{stateOf}
-use Rattle.unit.proofs.Plays.{request-part, nothing-sent}
+use Rattle.unit.proofs.Plays.{request-part, nothing-sent, refused-next}
 use borrow.Author.Needs.{needs}
 use Rattle.unit.proofs.play.play_delivery.Statement.{statement}
 use Rattle.unit.proofs.play.play_delivery.Tie as tie
@@ -43,24 +41,16 @@ part-deliver-end c = search needs
 deliver-requires : tie.Need-deliver-requires
 deliver-requires c κs = search needs
 
-enum-told : tie.Need-enum-told
-enum-told c = search needs
-
-enum-known-outcome : tie.Need-enum-known-outcome
-enum-known-outcome c = search needs
+nothing-sent-requires : tie.Need-nothing-sent-requires
+nothing-sent-requires c κs = search needs
 
 returns : tie.Need-returns
 returns c =
-    let d = c .before .before .before in
-    let sent = nothing-sent (outcome (d .deliver .result .outcome)) (delivered d) (told d .0) in
-    (rw (c .enum-told .given .1) at sent, (told d .1, λ q e. absurd (let z : _≡_ {A = ℕ} 0 1 = cc in omega arith)))
-
-returns-2 : tie.Need-returns-2
-returns-2 c =
-    let d = c .before .before .before .before in
-    let sent = nothing-sent (outcome (d .deliver .result .outcome)) (delivered d) (told d .0) in (
-      rw (c .before .outcome .given .1) at sent,
-      (told d .1, λ q e. d .deliver .ensures .1 .1 _ (ap outcome (c .before .outcome .given .1))),
+    let d = c .before .before in
+    let answer = outcome (d .deliver .result .outcome) in
+    let sent = c .before .nothing-sent .ensures in (
+      sent ∙ nothing-sent answer (delivered d) (told d .0),
+      (told d .1, λ q e. d .deliver .ensures .1 .1 q (refused-next answer q (sym sent ∙ e))),
     )
 
 pub play-delivery-spec : {M : Type 1} → statement M
@@ -73,7 +63,5 @@ play-delivery-spec =
     part-deliver-start
     part-deliver-end
     deliver-requires
-    enum-told
-    enum-known-outcome
-    returns
-    returns-2)
+    nothing-sent-requires
+    returns)
