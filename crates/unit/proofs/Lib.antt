@@ -4,3 +4,4 @@ pub mod Lines
 pub mod Whole
 pub mod Plays
 pub mod Pages
+pub mod Room

@@ -9,7 +9,10 @@ use lib.Seq.{take-all, take-nil}
 use native.Mathlib.Omega.{arith}
 use borrow.Author.Tests.{leb-true, leb-false}
 use Rattle.question.specs.Question.{Answer, given, refused, Worked, bind, next, after, verdict}
+use Rattle.rules.specs.Batch.{Settings}
 use Rattle.rules.specs.Replica.{State, Stepped}
+use Rattle.unit.specs.Page.{answerLines, joined}
+use Rattle.unit.specs.Journal.{putBack}
 
 -- ── the request ──
 
@@ -71,3 +74,12 @@ pub output-delivered : (output : List ℕ) (answer : Answer State) →
     output ≡ after output (bind (sentNothing output answer) (λ d. given (d .output)))
 output-delivered output (given t) = refl
 output-delivered output (refused number) = refl
+
+-- ── the text ──
+
+-- what the answer and the records of a call print is what the journal's definition prints of it
+pub played-text : (u : Settings) (place replica : ℕ) (replicas : List State) (output : List ℕ) (answer : Answer Stepped) →
+    joined (answerLines (u .k) (u .groups) place (bind answer (λ d. given (d .count))) (after output (bind answer (λ d. given (d .output)))))
+    ≡ putBack u place replica replicas answer .text
+played-text u place replica replicas output (given d) = refl
+played-text u place replica replicas output (refused number) = refl
