@@ -43,8 +43,8 @@ module _ (bytes : List ℕ) where
       let first : start ≡ 16 = omega arith in
       rw first (long (leb (length bytes) 40) refl)
 
-  pub request-part : take (end - start) (drop start bytes) ≡ take 24 (drop 16 bytes)
-  request-part = part (leb (length bytes) 16) refl
+  pub request-part : (from to : ℕ) → from ≡ start → to ≡ end → take (to - from) (drop from bytes) ≡ take 24 (drop 16 bytes)
+  request-part from to e f = rw (e, f) (part (leb (length bytes) 16) refl)
 
 -- ── the answer ──
 

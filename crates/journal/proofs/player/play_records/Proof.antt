@@ -1,3 +1,4 @@
+-- The loop keeps the lengths of what it lends, and the place counts up to its top.
 use Prim.Native.Nat.{_-_, _≤_}
 use mathlib.Core.Path.{_≡_, _∙_}
 use lib.ListN.{length, length-set}

@@ -1,3 +1,4 @@
+-- The answer decides between the two.
 use borrow.Author.Needs.{needs}
 use Rattle.unit.proofs.page.put_answer.Statement.{statement}
 use Rattle.unit.proofs.page.put_answer.Tie as tie

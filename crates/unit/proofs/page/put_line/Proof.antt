@@ -1,3 +1,4 @@
+-- The part of the text that is lent begins behind what is used.
 use Prim.Native.Nat.{_-_}
 use mathlib.Core.Path.{_≡_}
 use lib.ListN.{length, take}

@@ -1,3 +1,4 @@
+-- The message that was read decides.
 use borrow.Author.Needs.{needs}
 use Rattle.unit.proofs.page.put_message.Statement.{statement}
 use Rattle.unit.proofs.page.put_message.Tie as tie

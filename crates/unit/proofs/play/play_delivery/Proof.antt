@@ -20,7 +20,7 @@ told : (c : tie.After-deliver) →
 told c =
     let second = c .before .before in
     let a = second .before .before .before .args in
-    rw (← request-part (a .bytes .now), ← second .before .least .ensures, ← second .least2 .ensures)
+    rw (← request-part (a .bytes .now) _ _ (second .before .least .ensures) (second .least2 .ensures))
     (c .deliver .ensures .0, c .deliver .ensures .1 .0)
 
 least-requires : tie.Need-least-requires

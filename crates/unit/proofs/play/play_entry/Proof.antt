@@ -1,3 +1,4 @@
+-- What an entry does is what its call does.
 use mathlib.Core.Path.{refl, _∙_}
 use Rattle.rules.specs.Replica.{deliver}
 use Rattle.replica.specs.State.{stateOf}
