@@ -11,7 +11,7 @@ pub struct Span {
     pub from: usize,
     pub to: usize,
     pub filled: usize,
-    // Whether a read failed.
+    // Whether a read failed: nothing follows what is held.
     pub failed: bool,
 }
 
@@ -26,7 +26,14 @@ fn least(a: usize, b: usize) -> usize
     if a < b { a } else { b }
 }
 
-// Reads until the block is full, the input ends or a read fails.
+fn whole_records(count: usize) -> usize
+    ensures { λ r. ⌜ r ≤ count ⌝ }
+{
+    count - count % 40
+}
+
+// Reads until the block is full, the input ends or a read fails. A record that a failure cut is not
+// played.
 fn fill(file: i32, block: &mut [u8]) -> Filled
     requires { ⌜ length (now block) ≡ 64000 ⌝ }
     ensures { λ f. ⌜ f .count ≤ 64000 ⌝ }
@@ -36,7 +43,7 @@ fn fill(file: i32, block: &mut [u8]) -> Filled
         let got = libc::read(file, &mut block[count..]);
         if got < 0 {
             return Filled {
-                count,
+                count: whole_records(count),
                 failed: true,
             };
         }
@@ -83,7 +90,10 @@ pub(crate) fn next_record(file: i32, block: &mut [u8], last: Span) -> Span
     ensures { λ s. ⌜ (s .from ≤ s .to) × ((s .to ≤ s .filled) × (s .filled ≤ 64000)) ⌝ }
 {
     if last.to < last.filled {
-        return span_from(last.to, last.filled, false);
+        return span_from(last.to, last.filled, last.failed);
+    }
+    if last.failed {
+        return span_from(0, 0, true);
     }
     let f = fill(file, block);
     span_from(0, f.count, f.failed)

@@ -81,6 +81,9 @@ fn print_cards(replicas: [Replica; 7], count: usize, text: &mut [u8; 65536], p: 
 // The end of a journal. Where the input could not be read to its end, what was collected is
 // written, and no cards.
 fn finish(k: u8, replicas: [Replica; 7], text: &mut [u8; 65536], p: Printed, failed: bool) -> bool {
+    if !p.ok {
+        return false;
+    }
     if failed {
         flush(text, p);
         report_unread();

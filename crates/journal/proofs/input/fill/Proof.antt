@@ -26,6 +26,9 @@ part-read-end c = search needs
 read-requires : tie.Need-read-requires Inv-loop μ-loop
 read-requires c κs = search needs
 
+whole-records-requires : tie.Need-whole-records-requires Inv-loop μ-loop
+whole-records-requires c κs = search needs
+
 same-length : tie.Need-same-length Inv-loop μ-loop
 same-length c = search needs
 
@@ -76,6 +79,7 @@ fill-spec =
     part-read-start
     part-read-end
     read-requires
+    whole-records-requires
     same-length
     returns
     sub-count
