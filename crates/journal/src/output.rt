@@ -39,7 +39,7 @@ pub(crate) fn flush(text: &[u8], p: Printed) -> Printed {
 }
 
 // Writes what was collected, where the lines of one more record might not fit behind it: they are at
-// most 67 lines of at most 132 bytes.
+// most 67 of at most 132 bytes, as the law `sent-fits` of the library `unit` says.
 pub(crate) fn make_room(text: &[u8], p: Printed) -> Printed {
     if p.used <= 56692 {
         return p;

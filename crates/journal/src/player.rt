@@ -1,7 +1,5 @@
 // A journal played from a file: its records are handed one by one to the library `unit`.
 ghost use Prim.Native.Nat.{_<_, _≤_};
-ghost use lib.ListN.{length};
-ghost use mathlib.Core.Path.{_≡_};
 use crate::input::Span;
 use crate::input::next_record;
 use crate::input::no_record;

@@ -1,12 +1,9 @@
--- Lines put into a lent text: one behind the other, and all of them where there is room. Assumes nothing.
+-- Lines put into a lent text, one behind the other. That all of them stand there where there is room: Room. Assumes nothing.
 use Prim.Native.Nat.{ℕ, zero, suc, _+_, _-_, _≤_, _<_}
-use mathlib.Core.Path.{_≡_, refl, sym, ap, _∙_}
-use mathlib.Core.Bool.{cond}
-use mathlib.Core.List.{List, [], _∷_, _++_, map, append-nil, append-assoc, map-append}
-use lib.Dec.{leb}
-use lib.ListN.{length, take, drop, length-append, length-take, length-drop, drop-of-length-le}
-use lib.Seq.{take-all, take-length, drop-drop, drop-at, take-at}
-use native.Mathlib.Nat.{add-zero}
+use mathlib.Core.Path.{_≡_, refl, sym}
+use mathlib.Core.List.{List, [], _∷_, _++_, map, append-nil, map-append}
+use lib.ListN.{length, take, drop, length-drop, drop-of-length-le}
+use lib.Seq.{take-all, take-length, drop-drop}
 use native.Mathlib.Omega.{arith}
 use borrow.Author.Tests.{le-leb, lt-leb}
 use borrow.Rule.Slice.PartMut.{putMid}
@@ -16,7 +13,7 @@ use Rattle.record.proofs.Record.{read-length}
 use Rattle.record.specs.declared.message.Message.{Message}
 use Rattle.rules.specs.Run.{accepted, messagesIn}
 use Rattle.unit.specs.Text.{messageLine}
-use Rattle.unit.specs.Page.{joined, Page, page, putLine, putLines}
+use Rattle.unit.specs.Page.{Page, page, putLine, putLines}
 
 -- ── one line ──
 

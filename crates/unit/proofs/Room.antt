@@ -17,7 +17,7 @@ use Rattle.rules.specs.Lists.{tally}
 use Rattle.rules.specs.Run.{accepted, messagesIn}
 use Rattle.laws.proofs.Lists.{tally-bound}
 use Rattle.unit.specs.Text.{places, decimal, spaced, line, replyWord, haltWord, noWord, firstFour, messageLine, refusalLine}
-use Rattle.unit.specs.Page.{answerLines, joined, Page, page, putLine, putLines}
+use Rattle.unit.specs.Page.{answerLines, joined, Page, page, putLines}
 use Rattle.unit.proofs.Pages.{room}
 
 -- ── all lines, where there is room ──

@@ -1,5 +1,8 @@
 // A whole unit, fed by a journal: what a 40-byte record means, what it does to a replica, and the
 // lines that are printed. The program that reads and writes is crates/journal.
+//
+// Read on in this order: `entry` (a record), `play` (what it does), `text` (a line), `page` (the lines
+// of a record, put into a lent text). specs/Journal.antt says what a whole journal prints.
 mod entry;
 mod page;
 mod play;

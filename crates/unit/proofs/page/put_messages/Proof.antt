@@ -1,6 +1,6 @@
 -- The lines put so far, with those of the records that are left behind them, are the lines of all.
-use Prim.Native.Nat.{suc, _+_, _-_, _*_, _≤_}
-use mathlib.Core.Path.{_≡_, refl, sym, ap, _∙_}
+use Prim.Native.Nat.{suc, _+_, _-_, _≤_}
+use mathlib.Core.Path.{_≡_, refl, _∙_}
 use mathlib.Core.List.{map}
 use lib.ListN.{length, drop, length-drop}
 use native.Mathlib.Nat.{sub-zero}
