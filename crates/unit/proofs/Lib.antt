@@ -2,3 +2,6 @@ pub mod Lists
 pub mod Places
 pub mod Lines
 pub mod Whole
+pub mod Plays
+pub mod Pages
+pub mod Room

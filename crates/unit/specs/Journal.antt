@@ -6,14 +6,9 @@ use Rattle.question.specs.Question.{Answer, given, refused}
 use Rattle.rules.specs.Lists.{upTo}
 use Rattle.rules.specs.Batch.{Settings}
 use Rattle.rules.specs.Replica.{State, Stepped, newState}
-use Rattle.rules.specs.Run.{messagesIn}
 use Rattle.unit.specs.Entry.{Entry, delivery, turn, readSetup, readEntry, playEntry}
-use Rattle.unit.specs.Text.{messageLine, refusalLine, cardLine}
-
--- texts one after the other
-abbrev pub joined : List (List ℕ) → List ℕ
-joined [] = []
-joined (text ∷ texts) = text ++ joined texts
+use Rattle.unit.specs.Text.{refusalLine, cardLine}
+use Rattle.unit.specs.Page.{answerLines, joined}
 
 -- records of 40 bytes, the last one as long as it is; no more of them than bytes
 abbrev pub recordsOf : ℕ → List ℕ → List (List ℕ)
@@ -34,15 +29,15 @@ pub record Played : Type 0 where
 abbrev pub putBack : Settings → ℕ → ℕ → List State → Answer Stepped → Played
 putBack u place replica replicas (given d) = record {
   replicas = set replicas (replica - 1) (d .state);
-  text = joined (map messageLine (messagesIn (u .k) (u .groups) (d .count) (d .output)));
+  text = joined (answerLines (u .k) (u .groups) place (given (d .count)) (d .output));
 }
-putBack u place replica replicas (refused number) = record { replicas = replicas; text = refusalLine place number }
+putBack u place replica replicas (refused number) = record { replicas = replicas; text = joined (answerLines (u .k) (u .groups) place (refused number) []) }
 
 -- one record after the setup
 abbrev pub playRead : Settings → ℕ → List State → Answer Entry → Played
 playRead u place replicas (given e) =
     putBack u place (replicaFor e) replicas (playEntry (getD replicas (replicaFor e - 1) (newState u 0)) e (replicate 1608 0))
-playRead u place replicas (refused number) = record { replicas = replicas; text = refusalLine place number }
+playRead u place replicas (refused number) = putBack u place 0 replicas (refused number)
 
 -- the records after the setup, and at the end a line for each replica
 unfoldable pub playAll : Settings → ℕ → List State → List (List ℕ) → List ℕ

@@ -1,3 +1,4 @@
 pub mod Entry
 pub mod Text
+pub mod Page
 pub mod Journal

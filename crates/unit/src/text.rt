@@ -76,8 +76,9 @@ fn put_first_four(l: Line, m: Message) -> Line
     put_number(c, m.timestamp.0)
 }
 
-pub fn message_line(m: Message) -> Line
-    ensures { λ l. ⌜ textOf l ≡ messageLine m ⌝ }
+pub(crate) fn message_line(m: Message) -> Line
+    ensures text { λ l. ⌜ textOf l ≡ messageLine m ⌝ }
+    ensures long { λ l. ⌜ l .length ≤ 160 ⌝ }
 {
     if m.kind == REPLY {
         let a = put_first_four(new_line(b"reply"), m);
@@ -87,15 +88,17 @@ pub fn message_line(m: Message) -> Line
     end_line(put_first_four(new_line(b"halt"), m))
 }
 
-pub fn refusal_line(place: u64, number: u8) -> Line
-    ensures { λ l. ⌜ textOf l ≡ refusalLine place number ⌝ }
+pub(crate) fn refusal_line(place: u64, number: u8) -> Line
+    ensures text { λ l. ⌜ textOf l ≡ refusalLine place number ⌝ }
+    ensures long { λ l. ⌜ l .length ≤ 160 ⌝ }
 {
     let a = put_number(new_line(b"no"), place);
     end_line(put_number(a, number as u64))
 }
 
-pub fn card_line(r: Replica) -> Line
-    ensures { λ l. ⌜ textOf l ≡ cardLine (stateOf r) ⌝ }
+pub(crate) fn card_line(r: Replica) -> Line
+    ensures text { λ l. ⌜ textOf l ≡ cardLine (stateOf r) ⌝ }
+    ensures long { λ l. ⌜ l .length ≤ 160 ⌝ }
 {
     let failed = r.variables[0] as u64;
     let writes = r.writes;

@@ -1,6 +1,7 @@
 -- Each call adds its part.
 use lib.ListN.{getD}
 use Rattle.unit.proofs.Lines.{begun, more, ended}
+use native.Mathlib.Omega.{arith}
 use borrow.Author.Needs.{needs}
 use Rattle.unit.proofs.text.card_line.Statement.{statement}
 use Rattle.unit.proofs.text.card_line.Tie as tie
@@ -40,7 +41,7 @@ returns c =
     let r = first .before .before .before .before .args .t1 in
     let one = more (r .number) (begun (first .before .new-line .ensures .0)) (first .put-number .ensures .0) in
     let two = more (getD (r .variables) 0 0) one (second .put-number2 .ensures .0) in
-    ended (more (r .writes) two (third .put-number3 .ensures .0)) (c .end-line .ensures .0)
+    (ended (more (r .writes) two (third .put-number3 .ensures .0)) (c .end-line .ensures .0), omega arith)
 
 pub card-line-spec : {M : Type 1} → statement M
 card-line-spec =

@@ -3,6 +3,7 @@ use borrow.Author.Tests.{eq-eqb, ne-eqb}
 use Rattle.record.specs.Record.{reply}
 use Rattle.unit.specs.Text.{replyWord, haltWord, firstFour, textOf}
 use Rattle.unit.proofs.Lines.{Written, after, more, ended}
+use native.Mathlib.Omega.{arith}
 use borrow.Author.Needs.{needs}
 use Rattle.unit.proofs.text.message_line.Statement.{statement}
 use Rattle.unit.proofs.text.message_line.Tie as tie
@@ -40,7 +41,7 @@ returns c =
     after (sent .before .new-line .ensures .0) (sent .put-first-four .ensures .0) in
     let five = more (m .variable) four (c .before .before .before .put-number .ensures .0) in
     rw (eq-eqb (m .kind) reply (taken .if1 .taken))
-    (ended (more (m .value) five (c .before .put-number2 .ensures .0)) (c .end-line .ensures .0))
+    (ended (more (m .value) five (c .before .put-number2 .ensures .0)) (c .end-line .ensures .0), omega arith)
 
 slice-aggregate-new-line-2 : tie.Need-slice-aggregate-new-line-2
 slice-aggregate-new-line-2 c = search needs
@@ -61,7 +62,7 @@ returns-2 c =
     let m = left .before .before .args .m in
     let four : Written haltWord (firstFour m) (textOf (sent .put-first-four2 .result)) =
     after (sent .before .new-line2 .ensures .0) (sent .put-first-four2 .ensures .0) in
-    rw (ne-eqb (m .kind) reply (left .if1 .left)) (ended four (c .end-line2 .ensures .0))
+    rw (ne-eqb (m .kind) reply (left .if1 .left)) (ended four (c .end-line2 .ensures .0), omega arith)
 
 pub message-line-spec : {M : Type 1} → statement M
 message-line-spec =

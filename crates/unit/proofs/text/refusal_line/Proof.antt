@@ -1,5 +1,6 @@
 -- Each call adds its part.
 use Rattle.unit.proofs.Lines.{begun, more, ended}
+use native.Mathlib.Omega.{arith}
 use borrow.Author.Needs.{needs}
 use Rattle.unit.proofs.text.refusal_line.Statement.{statement}
 use Rattle.unit.proofs.text.refusal_line.Tie as tie
@@ -25,7 +26,7 @@ returns c =
     let first = second .before in
     let a = first .before .before .before .args in
     let one = more (a .place) (begun (first .before .new-line .ensures .0)) (first .put-number .ensures .0) in
-    ended (more (a .number) one (second .put-number2 .ensures .0)) (c .end-line .ensures .0)
+    (ended (more (a .number) one (second .put-number2 .ensures .0)) (c .end-line .ensures .0), omega arith)
 
 pub refusal-line-spec : {M : Type 1} → statement M
 refusal-line-spec =

@@ -1,20 +1,15 @@
-// Plays a journal of a whole unit from standard input and prints what it did. It only reads, hands
-// on to the library `unit`, and writes.
-mod input;
-mod output;
-
+// A journal played from a file: its records are handed one by one to the library `unit`.
 ghost use Prim.Native.Nat.{_<_, _≤_};
-ghost use lib.ListN.{length};
-ghost use mathlib.Core.Path.{_≡_};
-use input::next_record;
-use input::report_failure;
-use output::Printed;
-use output::flush;
-use output::put;
-use output::put_answer;
+use crate::input::Span;
+use crate::input::next_record;
+use crate::input::no_record;
+use crate::input::report_unread;
+use crate::output::Printed;
+use crate::output::flush;
+use crate::output::make_room;
+use crate::output::print_answer;
 use replica::Replica;
 use unit::EntryRead;
-use unit::Line;
 use unit::Setup;
 use unit::SetupRead;
 
@@ -23,13 +18,12 @@ fn new_replicas(s: Setup) -> [Replica; 7] {
     let least = replica::make(0, 1, 1, 0, 1);
     let first = least.replica;
     let mut replicas = [first; 7];
-    let mut number: u8 = 0;
-    while number < 7 {
-        number += 1;
-        let made = replica::make(s.k, s.groups, s.owner, s.delta, number);
-        let at = number as usize - 1;
+    let mut at: usize = 0;
+    while at < 7 {
+        let made = replica::make(s.k, s.groups, s.owner, s.delta, at as u8 + 1);
         let r = made.replica;
         replicas[at] = r;
+        at += 1;
     }
     replicas
 }
@@ -71,35 +65,50 @@ fn replica_count(k: u8) -> usize
 fn print_cards(replicas: [Replica; 7], count: usize, text: &mut [u8; 65536], p: Printed) -> Printed
     requires { ⌜ count ≤ 7 ⌝ }
 {
-    let mut next = p;
+    let ready = make_room(text, p);
+    let mut used = ready.used;
     let mut i: usize = 0;
     while i < count {
         let r = replicas[i];
-        next = put(text, next, unit::card_line(r));
+        used = unit::put_card(r, text, used);
         i += 1;
     }
-    next
+    Printed { used, ok: ready.ok }
 }
 
-// The records after the setup, which ends at `start`; the block holds `held` bytes of input.
-fn play(s: Setup, block: &mut [u8; 64000], start: usize, held: usize) {
+// The end of a journal. Where the input could not be read to its end, what was collected is
+// written, and no cards.
+fn finish(k: u8, replicas: [Replica; 7], text: &mut [u8; 65536], p: Printed, failed: bool) -> bool {
+    if !p.ok {
+        return false;
+    }
+    if failed {
+        flush(text, p);
+        report_unread();
+        return false;
+    }
+    let all = print_cards(replicas, replica_count(k), text, p);
+    let last = flush(text, all);
+    last.ok
+}
+
+// The records after the setup, which stands in the block that is held at `first`.
+fn play_records(s: Setup, file: i32, held: [u8; 64000], first: Span) -> bool
+    requires { ⌜ first .filled ≤ 64000 ⌝ }
+{
     let k = s.k;
     let groups = s.groups;
     let mut replicas = new_replicas(s);
+    let mut block = held;
     let mut sent = [0u8; 1608];
     let mut text = [0u8; 65536];
     let mut printed = Printed { used: 0, ok: true };
-    let mut at = start;
-    let mut filled = held;
-    let mut failed = false;
+    let mut span = first;
     let mut place: u64 = 1;
     while place < 18446744073709551615 {
-        let span = next_record(block, at, filled);
+        span = next_record(file, &mut block, span);
         let from = span.from;
         let to = span.to;
-        filled = span.filled;
-        failed = span.failed;
-        at = to;
         if from == to {
             break;
         }
@@ -111,45 +120,36 @@ fn play(s: Setup, block: &mut [u8; 64000], start: usize, held: usize) {
         let after = p.replica;
         replicas[i] = after;
         let answer = p.answer;
-        printed = put_answer(k, groups, place, answer, &sent, &mut text, printed);
+        printed = print_answer(k, groups, place, answer, &sent, &mut text, printed);
         if !printed.ok {
-            return;
+            break;
         }
     }
-    finish(k, replicas, &mut text, printed, failed);
+    finish(k, replicas, &mut text, printed, span.failed)
 }
 
-// The end of the journal: a line for each replica, unless the input could not be read to its end.
-fn finish(k: u8, replicas: [Replica; 7], text: &mut [u8; 65536], p: Printed, failed: bool) {
-    if failed {
-        flush(text, p);
-        report_failure();
-        return;
-    }
-    let all = print_cards(replicas, replica_count(k), text, p);
-    flush(text, all);
+// After a refused first record nothing follows.
+fn print_refusal(number: u8) -> bool {
+    let mut text = [0u8; 160];
+    let used = unit::put_refusal(1, number, &mut text, 0);
+    let p = flush(&text, Printed { used, ok: true });
+    p.ok
 }
 
-fn print_alone(l: Line) {
-    let mut text = [0u8; 65536];
-    let p = put(&mut text, Printed { used: 0, ok: true }, l);
-    flush(&text, p);
-}
-
-fn main() {
+// Whether all of it was read and written.
+pub(crate) fn play_journal(file: i32) -> bool {
     let mut block = [0u8; 64000];
-    let span = next_record(&mut block, 0, 0);
+    let span = next_record(file, &mut block, no_record());
     let from = span.from;
     let to = span.to;
-    if span.failed {
-        report_failure();
-        return;
-    }
     if from == to {
-        return;
+        if span.failed {
+            report_unread();
+        }
+        return !span.failed;
     }
     match unit::read_setup(&block[from..to]) {
-        SetupRead::Accepted(s) => play(s, &mut block, to, span.filled),
-        SetupRead::Refused(number) => print_alone(unit::refusal_line(1, number)),
+        SetupRead::Accepted(s) => play_records(s, file, block, span),
+        SetupRead::Refused(number) => print_refusal(number),
     }
 }

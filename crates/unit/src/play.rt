@@ -1,14 +1,15 @@
 // What a record of the journal does to its replica.
+ghost use Prim.Native.Nat.{ℕ, min};
 ghost use mathlib.Core.Path.{_≡_};
 ghost use lib.ListN.{take, drop};
-ghost use Rattle.question.specs.Question.{given, bind, after, verdict, outcome};
+ghost use Rattle.question.specs.Question.{given, refused, bind, after, next, outcome};
 ghost use Rattle.rules.specs.Replica.{deliver, step};
-ghost use Rattle.replica.specs.State.{stateOf, stepAnswer};
+ghost use Rattle.batch.specs.State.{stateOf};
+ghost use Rattle.replica.specs.State.{stepAnswer};
 ghost use Rattle.unit.specs.Entry.{entryAnswer, playOn};
 use crate::entry::EntryRead;
 use question::Outcome;
 use record::LocalTime;
-use replica::Delivered;
 use replica::Replica;
 use replica::StepAnswer;
 
@@ -17,43 +18,42 @@ pub struct Played {
     pub replica: Replica,
 }
 
-// A delivery of bytes 16 to 39; a shorter record has those that it has.
-fn deliver_part(r: Replica, at: LocalTime, bytes: &[u8]) -> Delivered
-    ensures answer { λ d. ⌜ outcome (d .outcome) ≡ verdict (deliver (stateOf r) (take 24 (drop 16 (now (bytes .entry)))) at) ⌝ }
-    ensures state { λ d. ⌜ stateOf (d .replica) ≡ after (stateOf r) (deliver (stateOf r) (take 24 (drop 16 (now (bytes .entry)))) at) ⌝ }
+fn least(a: usize, b: usize) -> usize
+    ensures { λ r. ⌜ r ≡ min a b ⌝ }
 {
-    if bytes.len() < 16 {
-        return replica::deliver(r, &bytes[0..0], at);
-    }
-    if bytes.len() < 40 {
-        return replica::deliver(r, &bytes[16..], at);
-    }
-    replica::deliver(r, &bytes[16..40], at)
+    if a < b { a } else { b }
 }
 
+// A delivery sends no message.
+fn nothing_sent(o: Outcome) -> StepAnswer
+    ensures { λ a. ⌜ stepAnswer a ≡ next (outcome o) (given 0) ⌝ }
+{
+    match o {
+        Outcome::Done => StepAnswer::Sent(0),
+        Outcome::Refused(number) => StepAnswer::Refused(number),
+    }
+}
+
+// A delivery of bytes 16 to 39; a shorter record has those that it has.
 fn play_delivery(r: Replica, at: LocalTime, bytes: &[u8]) -> Played
     ensures answer { λ p. ⌜ stepAnswer (p .answer) ≡ bind (deliver (stateOf r) (take 24 (drop 16 (now (bytes .entry)))) at) (λ _. given 0) ⌝ }
     ensures state { λ p. ⌜ stateOf (p .replica) ≡ after (stateOf r) (deliver (stateOf r) (take 24 (drop 16 (now (bytes .entry)))) at) ⌝ }
+    ensures kept { λ p. ⌜ ((q : ℕ) → stepAnswer (p .answer) ≡ refused q → p .replica ≡ r) ⌝ }
 {
-    let d = deliver_part(r, at, bytes);
-    let replica = d.replica;
+    let start = least(bytes.len(), 16);
+    let end = least(bytes.len(), 40);
+    let d = replica::deliver(r, &bytes[start..end], at);
     let outcome = d.outcome;
-    match outcome {
-        Outcome::Done => Played {
-            answer: StepAnswer::Sent(0),
-            replica,
-        },
-        Outcome::Refused(number) => Played {
-            answer: StepAnswer::Refused(number),
-            replica,
-        },
-    }
+    let answer = nothing_sent(outcome);
+    let replica = d.replica;
+    Played { answer, replica }
 }
 
 fn play_turn(r: Replica, at: LocalTime, output: &mut [u8]) -> Played
     ensures answer { λ p. ⌜ stepAnswer (p .answer) ≡ bind (step (stateOf r) at (now (output .entry))) (λ d. given (d .count)) ⌝ }
     ensures state { λ p. ⌜ stateOf (p .replica) ≡ after (stateOf r) (bind (step (stateOf r) at (now (output .entry))) (λ d. given (d .state))) ⌝ }
     ensures output { λ p. ⌜ now (output .exit) ≡ after (now (output .entry)) (bind (step (stateOf r) at (now (output .entry))) (λ d. given (d .output))) ⌝ }
+    ensures kept { λ p. ⌜ ((q : ℕ) → stepAnswer (p .answer) ≡ refused q → p .replica ≡ r) ⌝ }
 {
     let s = replica::step(r, at, output);
     let answer = s.answer;
@@ -66,6 +66,7 @@ pub fn play_entry(r: Replica, e: EntryRead, bytes: &[u8], output: &mut [u8]) -> 
     ensures answer { λ p. ⌜ stepAnswer (p .answer) ≡ bind (playOn (stateOf r) (entryAnswer (now (bytes .entry)) e) (now (output .entry))) (λ d. given (d .count)) ⌝ }
     ensures state { λ p. ⌜ stateOf (p .replica) ≡ after (stateOf r) (bind (playOn (stateOf r) (entryAnswer (now (bytes .entry)) e) (now (output .entry))) (λ d. given (d .state))) ⌝ }
     ensures output { λ p. ⌜ now (output .exit) ≡ after (now (output .entry)) (bind (playOn (stateOf r) (entryAnswer (now (bytes .entry)) e) (now (output .entry))) (λ d. given (d .output))) ⌝ }
+    ensures kept { λ p. ⌜ ((q : ℕ) → stepAnswer (p .answer) ≡ refused q → p .replica ≡ r) ⌝ }
 {
     match e {
         EntryRead::Delivery(_, at) => play_delivery(r, at, bytes),

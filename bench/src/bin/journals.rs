@@ -1,0 +1,380 @@
+//! Writes the journals of crates/journal/data into a folder, one file each:
+//! `journals FOLDER`. What each shows stands above it.
+
+use std::path::Path;
+use std::{env, fs, io};
+
+use bench::model::journal::{delivery_entry, setup_entry, step_entry, ENTRY_SIZE};
+use bench::random::Random;
+
+type Entry = [u8; ENTRY_SIZE];
+type Request = [u8; 24];
+
+const READ: u8 = 1;
+const WRITE: u8 = 2;
+const LAST_TIME: u64 = 1 << 62;
+
+fn request(kind: u8, group: u8, process: u8, variable: u16, stamp: u64, value: u32) -> Request {
+    let mut bytes = [0; 24];
+    bytes[..3].copy_from_slice(&[kind, group, process]);
+    bytes[4..6].copy_from_slice(&variable.to_be_bytes());
+    bytes[8..16].copy_from_slice(&stamp.to_be_bytes());
+    bytes[16..20].copy_from_slice(&value.to_be_bytes());
+    bytes
+}
+
+/// A read by group 1.
+fn read(process: u8, variable: u16, stamp: u64) -> Request {
+    request(READ, 1, process, variable, stamp, 0)
+}
+
+/// A write by group 1.
+fn write(process: u8, variable: u16, stamp: u64, value: u32) -> Request {
+    request(WRITE, 1, process, variable, stamp, value)
+}
+
+/// The bytes with one of them changed.
+fn with<const N: usize>(mut bytes: [u8; N], at: usize, byte: u8) -> [u8; N] {
+    bytes[at] = byte;
+    bytes
+}
+
+/// Requests delivered to a card at one time.
+fn all(card: u8, at: u64, requests: &[Request]) -> Vec<Entry> {
+    requests.iter().map(|request| delivery_entry(card, at, request)).collect()
+}
+
+/// A unit with k = 1, N = 2, owner 1, δ = 5, as in document 01's examples.
+fn example(entries: &[Entry]) -> Vec<u8> {
+    [&[setup_entry(1, 2, 1, 5)], entries].concat().concat()
+}
+
+/// Requests delivered to card 1 at 100, and a turn of it at 106.
+fn handled(requests: &[Request]) -> Vec<u8> {
+    example(&[all(1, 100, requests), vec![step_entry(1, 106)]].concat())
+}
+
+fn whole_run() -> Vec<u8> {
+    [
+        setup_entry(0, 1, 1, 5),
+        delivery_entry(1, 100, &write(1, 3, 50, 9)),
+        delivery_entry(1, 102, &read(1, 3, 51)),
+        step_entry(1, 105),
+        step_entry(1, 106),
+        step_entry(1, 108),
+    ]
+    .concat()
+}
+
+fn main() -> io::Result<()> {
+    let Some(folder) = env::args_os().nth(1) else {
+        eprintln!("usage: journals FOLDER");
+        std::process::exit(64);
+    };
+    let folder = Path::new(&folder);
+    let journals =
+        [plain(), refused_first(), refused(), examples(), units(), ends(), random(), long()];
+    for (name, bytes) in journals.concat() {
+        fs::write(folder.join(name), bytes)?;
+    }
+    Ok(())
+}
+
+type Journals = Vec<(&'static str, Vec<u8>)>;
+
+fn plain() -> Journals {
+    vec![
+        // Document 01's whole run.
+        ("whole-run", whole_run()),
+        // Nothing is printed.
+        ("empty", vec![]),
+        // A part of a first record, and of a last one: 18.
+        ("partial-first", vec![1]),
+        ("partial-last", [&whole_run()[..], &step_entry(1, 109)[..39]].concat()),
+    ]
+}
+
+/// A first record that is refused, and a whole run behind it: only the refusal is printed.
+fn refused_first() -> Journals {
+    let first = |entry: Entry| [&entry[..], &whole_run()].concat();
+    vec![
+        // k = 4; N = 0; N = 5; owner 0; owner past N; δ = 1,000,001.
+        ("refused-first-01", first(setup_entry(4, 1, 1, 5))),
+        ("refused-first-02", first(setup_entry(0, 0, 0, 5))),
+        ("refused-first-02-above", first(setup_entry(0, 5, 1, 5))),
+        ("refused-first-03", first(setup_entry(0, 1, 0, 5))),
+        ("refused-first-03-above", first(setup_entry(0, 2, 3, 5))),
+        ("refused-first-04", first(setup_entry(0, 1, 1, 1_000_001))),
+        // A storage card in a setup.
+        ("refused-first-05", first(with(setup_entry(0, 1, 1, 5), 1, 1))),
+        // 39 bytes.
+        ("refused-first-18", setup_entry(0, 1, 1, 5)[..39].to_vec()),
+        // A delivery, a turn, and a kind that there is not.
+        ("refused-first-19", first(delivery_entry(1, 100, &read(1, 3, 51)))),
+        ("refused-first-19-turn", first(step_entry(1, 100))),
+        ("refused-first-19-zero", first([0; ENTRY_SIZE])),
+        // Byte 2; the first and the last byte behind the owner.
+        ("refused-first-20", first(with(setup_entry(0, 1, 1, 5), 2, 1))),
+        ("refused-first-20-at-19", first(with(setup_entry(0, 1, 1, 5), 19, 1))),
+        ("refused-first-20-at-39", first(with(setup_entry(0, 1, 1, 5), 39, 1))),
+        // k = 4, a storage card and a byte that must be zero: the questions of the record come first.
+        ("refused-first-order", first(with(with(setup_entry(4, 1, 1, 5), 1, 1), 2, 1))),
+    ]
+}
+
+/// Later records that are refused, all for one reason; the last record is a turn that shows that
+/// nothing changed.
+fn refused() -> Journals {
+    let entries = |list: &[Entry]| example(&[list, &[step_entry(1, LAST_TIME)]].concat());
+    let requests = |list: &[Request]| entries(&all(1, 100, list));
+    let turn = step_entry(1, 100);
+    let delivery = delivery_entry(1, 100, &read(1, 3, 51));
+    let mut full = all(1, 100, &[read(1, 3, 51); 65]);
+    full.extend([step_entry(1, 106), delivery_entry(1, 107, &read(1, 3, 52))]);
+    vec![
+        // Cards 0, 4 and 255 of three.
+        ("no-05", entries(&[0, 4, 255].map(|card| with(delivery, 1, card)))),
+        ("no-05-turn", entries(&[0, 4, 255].map(|card| with(turn, 1, card)))),
+        // Kinds 0, 3, 4 and 255.
+        ("no-07", requests(&[0, 3, 4, 255].map(|kind| request(kind, 1, 1, 3, 51, 0)))),
+        // Groups 0 and 3 of two; program cards 0 and 3 of two.
+        ("no-08", requests(&[0, 3].map(|group| request(READ, group, 1, 3, 51, 0)))),
+        ("no-09", requests(&[0, 3].map(|process| read(process, 3, 51)))),
+        // A write of variable 0; variable 256. A read of variable 0 is accepted.
+        (
+            "no-10",
+            requests(&[write(1, 0, 51, 9), write(1, 256, 51, 9), read(1, 256, 51), read(1, 0, 52)]),
+        ),
+        // Byte 3, bytes 6–7 and 20–23, and the value of a read.
+        (
+            "no-11",
+            requests(
+                &[3, 6, 7, 16, 17, 18, 19, 20, 21, 22, 23].map(|at| with(read(1, 3, 51), at, 1)),
+            ),
+        ),
+        // Past 2^62, delivery and turn; at 2^62 both are accepted, and the next turn is not ripe.
+        (
+            "no-12",
+            entries(&[
+                delivery_entry(1, LAST_TIME + 1, &read(1, 3, 51)),
+                delivery_entry(1, u64::MAX, &read(1, 3, 51)),
+                step_entry(1, LAST_TIME + 1),
+                step_entry(1, u64::MAX),
+                delivery_entry(1, LAST_TIME, &read(1, 3, 51)),
+            ]),
+        ),
+        // Below the last accepted reading, of a delivery and of a turn; an equal one is accepted, a
+        // refused one does not count, and each card has its own.
+        (
+            "no-13",
+            entries(&[
+                delivery,
+                delivery_entry(1, 99, &read(1, 3, 51)),
+                step_entry(1, 99),
+                delivery,
+                step_entry(1, 103),
+                delivery_entry(1, 102, &read(1, 3, 52)),
+                step_entry(2, 1),
+                step_entry(1, 103),
+            ]),
+        ),
+        // "Also run": the 64th delivery is accepted, the 65th not; a turn makes room again.
+        ("no-14", entries(&full)),
+        // A setup in the middle, and kinds that there are not.
+        (
+            "no-19",
+            entries(&[
+                setup_entry(1, 2, 1, 5),
+                with(turn, 0, 0),
+                with(turn, 0, 4),
+                with(turn, 0, 255),
+            ]),
+        ),
+        // Bytes 2–7 of a delivery.
+        ("no-20", entries(&[2, 3, 4, 5, 6, 7].map(|at| with(delivery, at, 1)))),
+        // Bytes 2–7 and 16–39 of a turn.
+        (
+            "no-20-turn",
+            entries(
+                &(2..40)
+                    .filter(|at| !(8..16).contains(at))
+                    .map(|at| with(turn, at, 1))
+                    .collect::<Vec<_>>(),
+            ),
+        ),
+        // Everything is wrong; then one thing after the other is put right, in the order of the
+        // questions: 19, 5, 20, 7, 8, 9, 10, 11, 12, 13.
+        ("questions-in-order", entries(&put_right())),
+    ]
+}
+
+fn put_right() -> Vec<Entry> {
+    let mut request = request(0, 0, 0, 256, 51, 9);
+    request[6] = 1;
+    let mut entry = with(with(delivery_entry(9, LAST_TIME + 1, &request), 0, 4), 2, 1);
+    let right: [(usize, u8); 8] =
+        [(0, 2), (1, 1), (2, 0), (16, READ), (17, 1), (18, 1), (20, 0), (22, 0)];
+    let mut list = vec![delivery_entry(1, 100, &read(1, 3, 51)), entry];
+    for (at, byte) in right {
+        entry = with(entry, at, byte);
+        list.push(entry);
+    }
+    // The value of a read, then a time that is too late, then one that is too early.
+    entry[32..36].fill(0);
+    list.push(entry);
+    list.push(delivery_entry(1, 99, &read(1, 0, 51)));
+    list
+}
+
+/// Document 01's examples 1 to 11, on card 1.
+fn examples() -> Journals {
+    let both = [write(1, 4, 10, 7), write(2, 4, 10, 7)];
+    let at = |time, request| delivery_entry(1, time, &request);
+    vec![
+        ("example-01", example(&[at(100, read(1, 4, 10)), step_entry(1, 105), step_entry(1, 106)])),
+        ("example-02", handled(&[both[0], both[1], read(1, 4, 11)])),
+        ("example-03", handled(&[both[0], write(2, 4, 10, 8)])),
+        ("example-04", handled(&[both[0]])),
+        ("example-05", handled(&[both[0], both[0]])),
+        ("example-06", handled(&[both[0], both[0], both[1]])),
+        ("example-07", handled(&[both[0], read(1, 4, 10), both[1]])),
+        ("example-08", handled(&[read(1, 4, 10)])),
+        ("example-09", handled(&[1, 2].map(|process| request(WRITE, 2, process, 4, 10, 7)))),
+        (
+            "example-10",
+            handled(&[
+                both[0],
+                write(1, 4, 20, 7),
+                write(2, 4, 20, 7),
+                read(1, 0, 30),
+                read(1, 4, 31),
+            ]),
+        ),
+        (
+            "example-11",
+            example(&[
+                at(100, read(1, 4, 20)),
+                at(104, read(1, 4, 10)),
+                step_entry(1, 106),
+                step_entry(1, 110),
+            ]),
+        ),
+    ]
+}
+
+fn units() -> Journals {
+    let write_by = |group, process| request(WRITE, group, process, 9, 10, 5);
+    // k = 3: all seven cards perform one write and answer a read; card 7 misses a write and fails.
+    let mut seven = vec![setup_entry(3, 1, 1, 0)];
+    for card in 1..=7 {
+        let writes = if card == 7 { 1..=3 } else { 1..=4 };
+        seven.extend(writes.map(|process| delivery_entry(card, 10, &write_by(1, process))));
+        seven.push(delivery_entry(card, 11, &read(2, 9, 11)));
+        seven.push(step_entry(card, 12));
+    }
+    // N = 4, owner 2: the groups are visited from 1 to 4; writes of guests do nothing.
+    let mut four = vec![setup_entry(0, 4, 2, 0)];
+    for group in [4, 3, 2, 1] {
+        four.push(delivery_entry(1, 10, &write_by(group, 1)));
+        four.push(delivery_entry(1, 10, &request(READ, group, 1, 9, 11, 0)));
+    }
+    four.push(step_entry(1, 11));
+    // k = 3: a dissent, four halts to the owner's program cards, ascending.
+    let mut freeze = vec![setup_entry(3, 2, 2, 0)];
+    for (process, value) in [(4, 5), (3, 5), (2, 5), (1, 6)] {
+        freeze.push(delivery_entry(5, 10, &request(WRITE, 2, process, 9, 10, value)));
+    }
+    freeze.push(step_entry(5, 11));
+    // 67 messages in one turn: 63 replies to a guest, then a freeze with four halts.
+    let mut most = vec![setup_entry(3, 2, 2, 0)];
+    most.extend((1..=63).map(|stamp| delivery_entry(1, 10, &read(1, 9, stamp))));
+    most.push(delivery_entry(1, 10, &request(WRITE, 2, 1, 9, 64, 5)));
+    most.push(step_entry(1, 11));
+    vec![
+        ("seven-cards", seven.concat()),
+        ("four-groups", four.concat()),
+        ("freeze-four-halts", freeze.concat()),
+        ("most-messages", most.concat()),
+    ]
+}
+
+/// Stamps, values, variables, readings and δ at their upper ends.
+fn ends() -> Journals {
+    let list = [
+        setup_entry(3, 4, 4, 1_000_000),
+        delivery_entry(7, LAST_TIME - 1_000_001, &request(READ, 4, 4, 255, u64::MAX, 0)),
+        delivery_entry(
+            7,
+            LAST_TIME - 1_000_001,
+            &request(WRITE, 4, 1, 255, u64::MAX - 1, u32::MAX),
+        ),
+        delivery_entry(
+            7,
+            LAST_TIME - 1_000_001,
+            &request(WRITE, 4, 2, 255, u64::MAX - 1, u32::MAX),
+        ),
+        delivery_entry(
+            7,
+            LAST_TIME - 1_000_001,
+            &request(WRITE, 4, 3, 255, u64::MAX - 1, u32::MAX),
+        ),
+        delivery_entry(
+            7,
+            LAST_TIME - 1_000_001,
+            &request(WRITE, 4, 4, 255, u64::MAX - 1, u32::MAX),
+        ),
+        step_entry(7, LAST_TIME - 1),
+        step_entry(7, LAST_TIME),
+    ];
+    vec![("upper-ends", list.concat())]
+}
+
+fn random() -> Journals {
+    let mut random = Random::new(1984);
+    let mut bytes = |count| (0..count).map(|_| random.bits() as u8).collect::<Vec<u8>>();
+    let unset = bytes(1001);
+    let set = [&setup_entry(1, 2, 1, 5)[..], &bytes(2017)].concat();
+    // Requests that are mostly right, a few timestamps, and readings that mostly rise.
+    let mut mixed = vec![setup_entry(1, 2, 1, 5)];
+    let mut time = 0;
+    for _ in 0..400 {
+        time += random.below(4);
+        let at = if random.below(20) == 0 { time / 2 } else { time };
+        let card = random.small(1, 3);
+        mixed.push(if random.below(6) == 0 {
+            step_entry(card, at)
+        } else {
+            let kind = random.small(1, 2);
+            let value = if kind == WRITE { random.below(2) as u32 } else { 0 };
+            let (group, process) = (random.small(1, 2), random.small(1, 2));
+            let stamp = time / 8 + random.below(3);
+            delivery_entry(
+                card,
+                at,
+                &request(kind, group, process, random.below(4) as u16, stamp, value),
+            )
+        });
+    }
+    vec![
+        // Bytes of no pattern, from the start and behind a setup.
+        ("random-bytes", unset),
+        ("random-after-setup", set),
+        ("random-unit", mixed.concat()),
+    ]
+}
+
+/// Journals that fill the program's blocks of 64,000 bytes of input and 65,536 of output: just one
+/// block of input, and more than one of each.
+fn long() -> Journals {
+    let mut one = vec![setup_entry(0, 1, 1, 5)];
+    one.extend((1..1600).map(|time| step_entry(1, time)));
+    let mut two = vec![setup_entry(3, 4, 4, 5)];
+    for step in 0..60 {
+        let time = 10 * step + 1;
+        two.extend((0..30).map(|i| {
+            delivery_entry(7, time, &request(READ, 4, 4, 255, u64::MAX - 2000 + 30 * step + i, 0))
+        }));
+        two.push(step_entry(7, time + 6));
+    }
+    vec![("one-block", one.concat()), ("two-blocks", two.concat())]
+}
