@@ -39,9 +39,9 @@ admit-admitted : (s : State) (bytes : List ℕ) (now : LocalTime) {r : Request} 
 unfolding admit
 admit-admitted s bytes now {r} e =
     let place : Request → Answer Request = λ q. ask ((ltb (length (s .pending)) 64 else 14) ∷ []) (given q) in
-    let a = bind-given (readRequest (s .settings .k) (s .settings .groups) bytes) (λ q. ask (timeQuestions s now) (place q)) e in
-    let times = ask-all-yes (timeQuestions s now) (place (a .0)) (a .2) in
-    let b = ask-through (timeQuestions s now) (place (a .0)) (a .2) in
+    let a = bind-given (readRequest (s .settings .k) (s .settings .groups) bytes) (λ q. ask (timeQuestions (s .last) now) (place q)) e in
+    let times = ask-all-yes (timeQuestions (s .last) now) (place (a .0)) (a .2) in
+    let b = ask-through (timeQuestions (s .last) now) (place (a .0)) (a .2) in
     let places = ask-all-yes ((ltb (length (s .pending)) 64 else 14) ∷ []) (given (a .0)) b in
     let c = ask-through ((ltb (length (s .pending)) 64 else 14) ∷ []) (given (a .0)) b in
     let same : a .0 ≡ r = cc in
@@ -56,8 +56,8 @@ step-late : (s : State) (now : LocalTime) (output : List ℕ) {d : Stepped} → 
 unfolding step
 step-late s now output e =
     let rest = ask ((leb 1608 (length output) else 15) ∷ []) (given (stepped s now output)) in
-    let times = ask-all-yes (timeQuestions s now) rest e in
-    let rooms = ask-all-yes ((leb 1608 (length output) else 15) ∷ []) (given (stepped s now output)) (ask-through (timeQuestions s now) rest e) in
+    let times = ask-all-yes (timeQuestions (s .last) now) rest e in
+    let rooms = ask-all-yes ((leb 1608 (length output) else 15) ∷ []) (given (stepped s now output)) (ask-through (timeQuestions (s .last) now) rest e) in
     (leb-true (s .last .0) (now .0) (times .1 .0), leb-true 1608 (length output) (rooms .0))
 
 -- ── the three things ──

@@ -26,7 +26,7 @@ use Rattle.laws.proofs.Count.{visits-cost}
 pub step-accepted : (s : State) (now : LocalTime) (output : List ℕ) {d : Stepped} → step s now output ≡ given d → d ≡ stepped s now output
 unfolding step
 step-accepted s now output e =
-    let a = ask-through (timeQuestions s now) (ask ((leb 1608 (length output) else 15) ∷ []) (given (stepped s now output))) e in
+    let a = ask-through (timeQuestions (s .last) now) (ask ((leb 1608 (length output) else 15) ∷ []) (given (stepped s now output))) e in
     let b = ask-through ((leb 1608 (length output) else 15) ∷ []) (given (stepped s now output)) a in
     cc
 

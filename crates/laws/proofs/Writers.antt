@@ -49,8 +49,8 @@ admit-process : (s : State) (bytes : List ℕ) (now : LocalTime) {r : Request} �
 unfolding admit
 admit-process s bytes now {r} e =
     let rest : Request → Answer Request = λ q. ask ((ltb (length (s .pending)) 64 else 14) ∷ []) (given q) in
-    let a = bind-given (readRequest (s .settings .k) (s .settings .groups) bytes) (λ q. ask (timeQuestions s now) (rest q)) e in
-    let b = ask-through (timeQuestions s now) (rest (a .0)) (a .2) in
+    let a = bind-given (readRequest (s .settings .k) (s .settings .groups) bytes) (λ q. ask (timeQuestions (s .last) now) (rest q)) e in
+    let b = ask-through (timeQuestions (s .last) now) (rest (a .0)) (a .2) in
     let c = ask-through ((ltb (length (s .pending)) 64 else 14) ∷ []) (given (a .0)) b in
     let same : a .0 ≡ r = cc in
     read-process (s .settings .k) (s .settings .groups) bytes (a .1 ∙ ap given same)

@@ -1,12 +1,13 @@
 // Delivery of a request.
 ghost use mathlib.Core.Path.{_≡_};
 ghost use Prim.Native.Nat.{ℕ, _<_};
-ghost use Rattle.question.specs.Question.{refused, ask, next, after, verdict, outcome};
-ghost use Rattle.record.specs.Record.{requestAnswer};
-ghost use Rattle.rules.specs.Replica.{timeQuestions, admit, arrive, deliver};
+ghost use mathlib.Core.List.{[], _∷_};
+ghost use lib.Dec.{ltb};
+ghost use Rattle.question.specs.Question.{_else_, given, refused, ask, bind, next, after, verdict, outcome};
+ghost use Rattle.record.specs.Record.{requestAnswer, readRequest};
+ghost use Rattle.rules.specs.Replica.{timeQuestions, arrive, deliver};
 ghost use Rattle.batch.specs.State.{stateOf};
 use batch::Replica;
-use batch::pending_count;
 use question::Outcome;
 use question::ask;
 use record::LocalTime;
@@ -20,19 +21,19 @@ pub struct Delivered {
 }
 
 // Questions 12 and 13.
-pub(crate) fn check_time(r: Replica, at: LocalTime, rest: Outcome) -> Outcome
-    ensures { λ o. ⌜ outcome o ≡ ask (timeQuestions (stateOf r) at) (outcome rest) ⌝ }
+pub(crate) fn check_time(last: LocalTime, at: LocalTime, rest: Outcome) -> Outcome
+    ensures { λ o. ⌜ outcome o ≡ ask (timeQuestions last at) (outcome rest) ⌝ }
 {
-    let q13 = ask(r.last.0 <= at.0, 13, rest);
+    let q13 = ask(last.0 <= at.0, 13, rest);
     ask(at.0 <= 4611686018427387904, 12, q13)
 }
 
-// The request that a delivery brings, or the refusal.
-fn admit(r: Replica, bytes: &[u8], at: LocalTime) -> RequestRead
-    ensures { λ a. ⌜ requestAnswer a ≡ admit (stateOf r) (now (bytes .entry)) at ⌝ }
+// The request that a delivery brings, or the refusal. `count` requests are pending.
+fn admit(k: u8, n: u8, last: LocalTime, count: usize, bytes: &[u8], at: LocalTime) -> RequestRead
+    ensures { λ a. ⌜ requestAnswer a ≡ bind (readRequest k n (now (bytes .entry))) (λ q. ask (timeQuestions last at) (ask ((ltb count 64 else 14) ∷ []) (given q))) ⌝ }
 {
-    let read = record::read_request(r.k, r.groups, bytes);
-    match check_time(r, at, ask(pending_count(r) < 64, 14, Outcome::Done)) {
+    let read = record::read_request(k, n, bytes);
+    match check_time(last, at, ask(count < 64, 14, Outcome::Done)) {
         Outcome::Done => read,
         Outcome::Refused(number) => refuse_later(read, number),
     }
@@ -69,7 +70,7 @@ pub fn deliver(r: Replica, bytes: &[u8], at: LocalTime) -> Delivered
     ensures state { λ d. ⌜ stateOf (d .replica) ≡ after (stateOf r) (deliver (stateOf r) (now (bytes .entry)) at) ⌝ }
     ensures kept { λ d. ⌜ ((q : ℕ) → outcome (d .outcome) ≡ refused q → d .replica ≡ r) ⌝ }
 {
-    match admit(r, bytes, at) {
+    match admit(r.k, r.groups, r.last, r.count, bytes, at) {
         RequestRead::Accepted(request) => Delivered {
             outcome: Outcome::Done,
             replica: add_pending(r, request, at),

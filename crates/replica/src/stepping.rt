@@ -31,10 +31,10 @@ pub struct Stepped {
 }
 
 // Questions 12, 13 and 15.
-fn check_step(r: Replica, at: LocalTime, room: usize) -> Outcome
-    ensures { λ o. ⌜ outcome o ≡ ask (timeQuestions (stateOf r) at) (ask ((leb 1608 room else 15) ∷ []) (given worked)) ⌝ }
+fn check_step(last: LocalTime, at: LocalTime, room: usize) -> Outcome
+    ensures { λ o. ⌜ outcome o ≡ ask (timeQuestions last at) (ask ((leb 1608 room else 15) ∷ []) (given worked)) ⌝ }
 {
-    check_time(r, at, ask(1608 <= room, 15, Outcome::Done))
+    check_time(last, at, ask(1608 <= room, 15, Outcome::Done))
 }
 
 // The visit of a group: while its batch is stable, that batch is handled.
@@ -93,7 +93,7 @@ pub fn step(r: Replica, at: LocalTime, output: &mut [u8]) -> Stepped
     ensures output { λ s. ⌜ now (output .exit) ≡ after (now (output .entry)) (bind (step (stateOf r) at (now (output .entry))) (λ d. given (d .output))) ⌝ }
     ensures kept { λ s. ⌜ ((q : ℕ) → stepAnswer (s .answer) ≡ refused q → s .replica ≡ r) ⌝ }
 {
-    match check_step(r, at, output.len()) {
+    match check_step(r.last, at, output.len()) {
         Outcome::Done => {
             let p = visits(at_time(r, at), at, output);
             let replica = p.replica;

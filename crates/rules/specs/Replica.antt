@@ -44,14 +44,14 @@ make u number = ask (makeQuestions u number) (given (newState u number))
 -- ── delivery ──
 
 -- at most 2^62, and not below the last accepted one
-abbrev pub timeQuestions : State → LocalTime → List Question
-timeQuestions s now = (leb (now .0) (2 ^ 62) else 12) ∷ (leb (s .last .0) (now .0) else 13) ∷ []
+abbrev pub timeQuestions : LocalTime → LocalTime → List Question
+timeQuestions last now = (leb (now .0) (2 ^ 62) else 12) ∷ (leb (last .0) (now .0) else 13) ∷ []
 
 -- the request questions, with the replica's own k and N, then those of the time, then whether there is a place
 unfoldable pub admit : State → List ℕ → LocalTime → Answer Request
 admit s bytes now =
     bind (readRequest (s .settings .k) (s .settings .groups) bytes)
-    (λ r. ask (timeQuestions s now) (ask ((ltb (length (s .pending)) 64 else 14) ∷ []) (given r)))
+    (λ r. ask (timeQuestions (s .last) now) (ask ((ltb (length (s .pending)) 64 else 14) ∷ []) (given r)))
 
 -- the state with one more pending request
 abbrev pub arrive : State → Request → LocalTime → State
@@ -171,4 +171,4 @@ stepped s now output =
     }
 
 unfoldable pub step : State → LocalTime → List ℕ → Answer Stepped
-step s now output = ask (timeQuestions s now) (ask ((leb 1608 (length output) else 15) ∷ []) (given (stepped s now output)))
+step s now output = ask (timeQuestions (s .last) now) (ask ((leb 1608 (length output) else 15) ∷ []) (given (stepped s now output)))

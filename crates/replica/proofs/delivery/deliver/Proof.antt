@@ -5,11 +5,25 @@ use native.Mathlib.Omega.{arith}
 use lib.ListN.{length, length-map, length-take}
 use borrow.Author.Needs.{needs}
 use Rattle.record.specs.Record.{requestAnswer}
-use Rattle.rules.specs.Replica.{deliver}
+use Rattle.rules.specs.Replica.{admit, deliver}
 use Rattle.batch.specs.State.{stateOf}
-use Rattle.replica.proofs.Asked.{admit-place}
+use Rattle.replica.proofs.Asked.{place-counted, admit-place}
 use Rattle.replica.proofs.delivery.deliver.Statement.{statement}
 use Rattle.replica.proofs.delivery.deliver.Tie as tie
+
+-- the array has 64 elements
+long : (c : tie.Start) → length (c .args .r .pending) ≡ 64
+long c = sym (length-map (c .args .r .pending) _) ∙ c .good .0 .1 .1 .1 .1 .1 .1 .1 .1 .1 .0 .1 .0 .1
+
+-- what is admitted is what the rules admit
+admitted : (c : tie.After-admit) →
+    let a = c .before .before .args in
+    requestAnswer (c .admit .result) ≡ admit (stateOf (a .r)) (a .bytes .now) (a .at)
+unfolding admit
+admitted c =
+    let s = c .before .before in
+    let r = s .args .r in
+    rw (c .admit .ensures, place-counted (r .count) (r .pending) (long s))
 
 admit-requires : tie.Need-admit-requires
 admit-requires c κs = search needs
@@ -19,12 +33,11 @@ enum-known-request c = search needs
 
 add-pending-requires : tie.Need-add-pending-requires
 add-pending-requires c κs =
-    let s = c .before .before .before .before .before in
-    let l = s .args .r .pending in
-    let long : length l ≡ 64 = sym (length-map l _) ∙ s .good .0 .1 .1 .1 .1 .1 .1 .1 .1 .1 .0 .1 .0 .1 in
-    let admitted = sym (c .before .before .before .admit .ensures) ∙ ap requestAnswer (c .before .request .given .1) in
-    let place = admit-place (stateOf (s .args .r)) (s .args .bytes .now) (s .args .at) admitted in
-    omega (arith, simp length-take at place)
+    let f = c .before .before .before in
+    let s = f .before .before in
+    let found = sym (admitted f) ∙ ap requestAnswer (c .before .request .given .1) in
+    let place = admit-place (stateOf (s .args .r)) (s .args .bytes .now) (s .args .at) found in
+    omega (arith, long s, simp length-take at place)
 
 enum-known-number : tie.Need-enum-known-number
 enum-known-number c = search needs
@@ -32,12 +45,12 @@ enum-known-number c = search needs
 returns : tie.Need-returns
 unfolding deliver
 returns c =
-    rw (← c .before .before .before .before .admit .ensures, c .before .before .request .given .1)
+    rw (← admitted (c .before .before .before .before), c .before .before .request .given .1)
     (refl, (c .add-pending .ensures, λ q e. absurd (let z : _≡_ {A = ℕ} 0 1 = cc in omega arith)))
 
 returns-2 : tie.Need-returns-2
 unfolding deliver
-returns-2 c = rw (← c .before .before .before .admit .ensures, c .before .number .given .1) (refl, (refl, λ q e. refl))
+returns-2 c = rw (← admitted (c .before .before .before), c .before .number .given .1) (refl, (refl, λ q e. refl))
 
 pub deliver-spec : {M : Type 1} → statement M
 deliver-spec =
