@@ -37,46 +37,28 @@ fn check_step(last: LocalTime, at: LocalTime, room: usize) -> Outcome
     check_time(last, at, ask(1608 <= room, 15, Outcome::Done))
 }
 
-// The visit of a group: while its batch is stable, that batch is handled.
-fn visit(p: Progress, group: u8, at: LocalTime, output: &mut [u8]) -> Progress
-    requires { ⌜ p .count ≤ 100000000 ⌝ }
-    ensures effect { λ q. ⌜ reached q (now (output .exit)) ≡ sends (p .count) (now (output .entry)) (visit group at (length (waiting (p .replica))) (stateOf (p .replica))) ⌝ }
-    ensures most { λ q. ⌜ q .count ≤ p .count + 16384 ⌝ }
-{
-    let mut r = p.replica;
-    let mut count = p.count;
-    let mut looks: usize = 64;
-    while 0 < looks {
-        match stable_head(r, group, at) {
-            Head::Nothing => {
-                return Progress { replica: r, count };
-            }
-            Head::At(t, _) => {
-                let next = handle_batch(r, group, t, output, count);
-                r = next.replica;
-                count = next.count;
-            }
-        }
-        looks -= 1;
-    }
-    Progress { replica: r, count }
-}
-
-// The visits of groups 1 to N.
+// The visits of groups 1 to N: while a group's batch is stable, that batch is handled. One loop: a replica is long to copy.
 fn visits(r: Replica, at: LocalTime, output: &mut [u8]) -> Progress
     ensures { λ q. ⌜ reached q (now (output .exit)) ≡ sends 0 (now (output .entry)) (visits (r .groups) at (stateOf r)) ⌝ }
 {
     let n = r.groups;
-    let mut p = Progress {
-        replica: r,
-        count: 0,
-    };
+    let mut replica = r;
+    let mut count: usize = 0;
+    // How many groups are done.
     let mut group: u8 = 0;
     while group < n {
-        group += 1;
-        p = visit(p, group, at, output);
+        match stable_head(replica, group + 1, at) {
+            Head::Nothing => {
+                group += 1;
+            }
+            Head::At(t, _) => {
+                let next = handle_batch(replica, group + 1, t, output, count);
+                replica = next.replica;
+                count = next.count;
+            }
+        }
     }
-    p
+    Progress { replica, count }
 }
 
 fn at_time(r: Replica, at: LocalTime) -> Replica
