@@ -1,12 +1,11 @@
 // A step (document 01's turn): one pass of Figure 1's major loop.
 ghost use mathlib.Core.Path.{_≡_};
-ghost use Prim.Native.Nat.{ℕ, _+_, _≤_};
+ghost use Prim.Native.Nat.{ℕ};
 ghost use mathlib.Core.List.{[], _∷_};
 ghost use lib.Dec.{leb};
-ghost use lib.ListN.{length};
 ghost use Rattle.question.specs.Question.{_else_, given, refused, worked, ask, bind, after, outcome};
-ghost use Rattle.rules.specs.Replica.{timeQuestions, visit, visits, atTime, step};
-ghost use Rattle.batch.specs.State.{stateOf, waiting};
+ghost use Rattle.rules.specs.Replica.{timeQuestions, visits, atTime, step};
+ghost use Rattle.batch.specs.State.{stateOf};
 ghost use Rattle.replica.specs.State.{stepAnswer};
 ghost use Rattle.replica.specs.Output.{sends, reached};
 use crate::delivery::check_time;
