@@ -76,10 +76,7 @@ fn is_late(first: LocalTime, delta: u64, at: LocalTime) -> bool
     if at.0 <= first.0 {
         return false;
     }
-    if at.0 - first.0 <= delta {
-        return false;
-    }
-    true
+    delta < at.0 - first.0
 }
 
 // The head of a group where its batch is stable.
