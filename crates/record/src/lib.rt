@@ -1,8 +1,8 @@
 // Records of the fail-stop store: 24 bytes, big-endian, a request or a message.
 //
 // Read on in this order: `clock` (the two clocks), `number` and `fields` (the 24 bytes), `length`
-// and `kind` (what is asked of them), `request` and `message` (reading and writing each). What the contracts cite stands in specs/; the round trips are in
-// proofs/.
+// and `kind` (what is asked of them), `request` and `message` (reading and writing each). What the
+// contracts cite stands in specs/; the round trips are in proofs/.
 mod clock;
 mod fields;
 mod kind;

@@ -36,7 +36,8 @@ fn check_step(last: LocalTime, at: LocalTime, room: usize) -> Outcome
     check_time(last, at, ask(1608 <= room, 15, Outcome::Done))
 }
 
-// The visits of groups 1 to N: while a group's batch is stable, that batch is handled. One loop: a replica is long to copy.
+// The visits of groups 1 to N: while a group's batch is stable, that batch is handled. It is one loop,
+// since a call for each group would copy the replica.
 fn visits(r: Replica, at: LocalTime, output: &mut [u8]) -> Progress
     ensures { λ q. ⌜ reached q (now (output .exit)) ≡ sends 0 (now (output .entry)) (visits (r .groups) at (stateOf r)) ⌝ }
 {
