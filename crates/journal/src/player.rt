@@ -8,10 +8,10 @@ use crate::output::Printed;
 use crate::output::flush;
 use crate::output::make_room;
 use crate::output::print_answer;
+use entry::EntryRead;
+use entry::Setup;
+use entry::SetupRead;
 use replica::Replica;
-use unit::EntryRead;
-use unit::Setup;
-use unit::SetupRead;
 
 // The replicas of a unit; those past its 2k + 1 are never named.
 fn new_replicas(s: Setup) -> [Replica; 7] {
@@ -113,7 +113,7 @@ fn play_records(s: Setup, file: i32, held: [u8; 64000], first: Span) -> bool
             break;
         }
         place += 1;
-        let e = unit::read_entry(k, &block[from..to]);
+        let e = entry::read_entry(k, &block[from..to]);
         let i = replica_index(e);
         let r = replicas[i];
         let p = unit::play_entry(r, e, &block[from..to], &mut sent);
@@ -148,7 +148,7 @@ pub(crate) fn play_journal(file: i32) -> bool {
         }
         return !span.failed;
     }
-    match unit::read_setup(&block[from..to]) {
+    match entry::read_setup(&block[from..to]) {
         SetupRead::Accepted(s) => play_records(s, file, block, span),
         SetupRead::Refused(number) => print_refusal(number),
     }

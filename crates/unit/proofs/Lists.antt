@@ -1,16 +1,9 @@
--- Laws of every and tally. Assumes nothing.
+-- Laws of tally. Assumes nothing.
 use Prim.Native.Nat.{ℕ, zero, suc, _+_, _≤_, _<_}
-use mathlib.Core.Path.{_≡_, refl, sym, ap}
-use mathlib.Core.Bool.{Bool, true, false, _&&_, and-true, and-assoc}
-use mathlib.Core.List.{List, [], _∷_, _++_}
+use mathlib.Core.Path.{_≡_, refl, ap}
+use mathlib.Core.Bool.{Bool, true, false}
 use native.Mathlib.Omega.{arith}
-use Rattle.rules.specs.Lists.{every, tally}
-
--- one more at the end
-pub every-snoc : {A : Type 0} (test : A → Bool) (xs : List A) (x : A) →
-    every test (xs ++ (x ∷ [])) ≡ (every test xs && test x)
-every-snoc test [] x = and-true (test x)
-every-snoc test (a ∷ xs) x = rw (every-snoc test xs x) (sym (and-assoc (test a) (every test xs) (test x)))
+use Rattle.rules.specs.Lists.{tally}
 
 -- where all pass, all are counted
 tally-all : (test : ℕ → Bool) (m : ℕ) → ((i : ℕ) → 0 < i → i ≤ m → test i ≡ true) → tally test m ≡ m

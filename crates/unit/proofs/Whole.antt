@@ -13,7 +13,8 @@ use Rattle.record.specs.Record.{read, write, requestFields, requestQuestions, m
 use Rattle.rules.specs.Batch.{handle}
 use Rattle.rules.specs.Replica.{admit, deliver, handleBatch, visit, visits, writeAll, stepped, step}
 use Rattle.rules.specs.Run.{messagesIn}
-use Rattle.unit.specs.Entry.{readSetup, readEntry, playEntry}
+use Rattle.entry.specs.Entry.{readSetup, readEntry}
+use Rattle.unit.specs.Play.{playEntry}
 use Rattle.unit.specs.Text.{places, decimal, line}
 use Rattle.unit.specs.Journal.{playAll, journal}
 

@@ -6,7 +6,8 @@ use Rattle.question.specs.Question.{Answer, given, refused}
 use Rattle.rules.specs.Lists.{upTo}
 use Rattle.rules.specs.Batch.{Settings}
 use Rattle.rules.specs.Replica.{State, Stepped, newState}
-use Rattle.unit.specs.Entry.{Entry, delivery, turn, readSetup, readEntry, playEntry}
+use Rattle.entry.specs.Entry.{Entry, delivery, turn, readSetup, readEntry}
+use Rattle.unit.specs.Play.{playEntry}
 use Rattle.unit.specs.Text.{refusalLine, cardLine}
 use Rattle.unit.specs.Page.{answerLines, joined}
 

@@ -1,4 +1,4 @@
-pub mod Entry
+pub mod Play
 pub mod Text
 pub mod Page
 pub mod Journal

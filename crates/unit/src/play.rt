@@ -6,8 +6,9 @@ ghost use Rattle.question.specs.Question.{given, refused, bind, after, next, ou
 ghost use Rattle.rules.specs.Replica.{deliver, step};
 ghost use Rattle.batch.specs.State.{stateOf};
 ghost use Rattle.replica.specs.State.{stepAnswer};
-ghost use Rattle.unit.specs.Entry.{entryAnswer, playOn};
-use crate::entry::EntryRead;
+ghost use Rattle.entry.specs.Entry.{entryAnswer};
+ghost use Rattle.unit.specs.Play.{playOn};
+use entry::EntryRead;
 use question::Outcome;
 use record::LocalTime;
 use replica::Replica;

@@ -3,7 +3,7 @@ use mathlib.Core.Path.{refl, _∙_}
 use Rattle.rules.specs.Replica.{deliver}
 use Rattle.batch.specs.State.{stateOf}
 use lib.ListN.{take, drop}
-use Rattle.unit.specs.Entry.{playEntry}
+use Rattle.unit.specs.Play.{playEntry}
 use Rattle.unit.proofs.Plays.{count-delivered, state-delivered, output-delivered}
 use borrow.Author.Needs.{needs}
 use Rattle.unit.proofs.play.play_entry.Statement.{statement}

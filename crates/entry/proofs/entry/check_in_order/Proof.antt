@@ -1,8 +1,8 @@
 -- Each call puts one question in front of what was asked before: the last call comes first.
 use Rattle.question.specs.Question.{ask}
 use borrow.Author.Needs.{needs}
-use Rattle.unit.proofs.entry.check_in_order.Statement.{statement}
-use Rattle.unit.proofs.entry.check_in_order.Tie as tie
+use Rattle.entry.proofs.entry.check_in_order.Statement.{statement}
+use Rattle.entry.proofs.entry.check_in_order.Tie as tie
 
 ask-requires : tie.Need-ask-requires
 ask-requires c κs = search needs

@@ -4,8 +4,8 @@ use native.Mathlib.Omega.{arith}
 use borrow.Author.Tests.{eq-eqb}
 use Rattle.question.specs.Question.{ask}
 use borrow.Author.Needs.{needs}
-use Rattle.unit.proofs.entry.check_entry.Statement.{statement}
-use Rattle.unit.proofs.entry.check_entry.Tie as tie
+use Rattle.entry.proofs.entry.check_entry.Statement.{statement}
+use Rattle.entry.proofs.entry.check_entry.Tie as tie
 
 shared-slice-read-kind : tie.Need-shared-slice-read-kind
 shared-slice-read-kind c = search needs

@@ -3,10 +3,10 @@ use mathlib.Core.Path.{_≡_, sym, _∙_}
 use Rattle.question.specs.Question.{given, worked, ask, next, outcome}
 use Rattle.rules.specs.Replica.{makeQuestions, newState, make}
 use Rattle.question.proofs.Questions.{ask-next, next-asked}
-use Rattle.unit.specs.Entry.{settingsOf}
+use Rattle.entry.specs.Entry.{settingsOf}
 use borrow.Author.Needs.{needs}
-use Rattle.unit.proofs.entry.accept_setup.Statement.{statement}
-use Rattle.unit.proofs.entry.accept_setup.Tie as tie
+use Rattle.entry.proofs.entry.accept_setup.Statement.{statement}
+use Rattle.entry.proofs.entry.accept_setup.Tie as tie
 
 -- the questions, asked by the making, decide the answer
 decided : (c : tie.After-make) →

@@ -3,8 +3,8 @@ use lib.ListN.{length}
 use borrow.Author.Tests.{eq-eqb}
 use Rattle.question.specs.Question.{ask}
 use borrow.Author.Needs.{needs}
-use Rattle.unit.proofs.entry.check_setup.Statement.{statement}
-use Rattle.unit.proofs.entry.check_setup.Tie as tie
+use Rattle.entry.proofs.entry.check_setup.Statement.{statement}
+use Rattle.entry.proofs.entry.check_setup.Tie as tie
 
 is-zero-from-requires : tie.Need-is-zero-from-requires
 is-zero-from-requires c κs = search needs

@@ -6,10 +6,10 @@ use lib.Seq.{take-suc, getD-drop}
 use native.Mathlib.Numerals.{add-one}
 use native.Mathlib.Omega.{arith}
 use borrow.Author.Needs.{needs}
-use Rattle.unit.specs.Entry.{zeroFrom}
-use Rattle.unit.proofs.Lists.{every-snoc}
-use Rattle.unit.proofs.entry.is_zero_from.Statement.{statement}
-use Rattle.unit.proofs.entry.is_zero_from.Tie as tie
+use Rattle.entry.specs.Entry.{zeroFrom}
+use Rattle.entry.proofs.Lists.{every-snoc}
+use Rattle.entry.proofs.entry.is_zero_from.Statement.{statement}
+use Rattle.entry.proofs.entry.is_zero_from.Tie as tie
 
 abbrev Inv-loop : tie.InvT-loop
 Inv-loop bytes at count zero₀ i₀ zero i = (i ≤ count) × (zero ≡ zeroFrom at i bytes)

@@ -4,15 +4,15 @@ use mathlib.Core.Bool.{Bool, cond, _&&_, _||_}
 use mathlib.Core.List.{List, [], _∷_}
 use lib.Dec.{eqb}
 use lib.ListN.{length, take, drop, getD}
-use Rattle.question.specs.Question.{Question, _else_, Answer, given, refused, ask, bind, within}
+use Rattle.question.specs.Question.{Question, _else_, Answer, given, refused, ask, within}
 use Rattle.record.specs.Layout.{field}
 use Rattle.record.specs.declared.clock.LocalTime.{LocalTime}
 use Rattle.rules.specs.Lists.{every}
 use Rattle.rules.specs.Batch.{Settings}
-use Rattle.rules.specs.Replica.{State, Stepped, makeQuestions, deliver, step}
-use Rattle.unit.specs.declared.entry.EntryRead.{EntryRead}
-use Rattle.unit.specs.declared.entry.Setup.{Setup}
-use Rattle.unit.specs.declared.entry.SetupRead.{SetupRead}
+use Rattle.rules.specs.Replica.{makeQuestions}
+use Rattle.entry.specs.declared.entry.EntryRead.{EntryRead}
+use Rattle.entry.specs.declared.entry.Setup.{Setup}
+use Rattle.entry.specs.declared.entry.SetupRead.{SetupRead}
 
 -- byte 0: what the record is
 abbrev pub kindOf : List ℕ → ℕ
@@ -67,15 +67,6 @@ entryIn bytes =
 
 unfoldable pub readEntry : ℕ → List ℕ → Answer Entry
 readEntry k bytes = ask (entryQuestions k bytes) (given (entryIn bytes))
-
--- what an entry does to its replica: a delivery sends nothing
-unfoldable pub playEntry : State → Entry → List ℕ → Answer Stepped
-playEntry s (delivery replica at request) output = bind (deliver s request at) (λ t. given (record { state = t; count = 0; output = output }))
-playEntry s (turn replica at) output = step s at output
-
--- what a record that was read does to its replica
-abbrev pub playOn : State → Answer Entry → List ℕ → Answer Stepped
-playOn s entry output = bind entry (λ e. playEntry s e output)
 
 -- ── the answers of the code: document 01's number and values for each case ──
 

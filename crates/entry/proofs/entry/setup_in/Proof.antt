@@ -1,7 +1,7 @@
 -- Each field is what stands at its place.
 use borrow.Author.Needs.{needs}
-use Rattle.unit.proofs.entry.setup_in.Statement.{statement}
-use Rattle.unit.proofs.entry.setup_in.Tie as tie
+use Rattle.entry.proofs.entry.setup_in.Statement.{statement}
+use Rattle.entry.proofs.entry.setup_in.Tie as tie
 
 shared-slice-read-t3 : tie.Need-shared-slice-read-t3
 shared-slice-read-t3 c = search needs

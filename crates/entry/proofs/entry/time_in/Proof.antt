@@ -10,8 +10,8 @@ use borrow.Author.Needs.{needs}
 use Rattle.record.specs.Number.{number}
 use Rattle.record.specs.Layout.{field}
 use Rattle.record.proofs.Numbers.{number-snoc}
-use Rattle.unit.proofs.entry.time_in.Statement.{statement}
-use Rattle.unit.proofs.entry.time_in.Tie as tie
+use Rattle.entry.proofs.entry.time_in.Statement.{statement}
+use Rattle.entry.proofs.entry.time_in.Tie as tie
 
 abbrev Inv-loop : tie.InvT-loop
 Inv-loop bytes x₀ i₀ x i = (i ≤ 8) × ((x ≡ field bytes 8 i) × (x < 256 ^ i))

@@ -2,8 +2,8 @@
 use lib.ListN.{getD}
 use borrow.Author.Tests.{eq-eqb, ne-eqb}
 use borrow.Author.Needs.{needs}
-use Rattle.unit.proofs.entry.entry_in.Statement.{statement}
-use Rattle.unit.proofs.entry.entry_in.Tie as tie
+use Rattle.entry.proofs.entry.entry_in.Statement.{statement}
+use Rattle.entry.proofs.entry.entry_in.Tie as tie
 
 shared-slice-read-number : tie.Need-shared-slice-read-number
 shared-slice-read-number c = search needs

@@ -7,7 +7,7 @@ ghost use lib.ListN.{length};
 ghost use Rattle.question.specs.Question.{_else_, given, worked, ask, outcome};
 ghost use Rattle.record.specs.Layout.{field};
 ghost use Rattle.rules.specs.Replica.{makeQuestions};
-ghost use Rattle.unit.specs.Entry.{zeroFrom, settingsIn, settingsOf, setupQuestions, readSetup, setupAnswer, entryIn, entryQuestions, readEntry, entryAnswer};
+ghost use Rattle.entry.specs.Entry.{zeroFrom, settingsIn, settingsOf, setupQuestions, readSetup, setupAnswer, entryIn, entryQuestions, readEntry, entryAnswer};
 use question::Outcome;
 use question::ask;
 use question::is_within;

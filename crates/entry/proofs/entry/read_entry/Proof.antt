@@ -4,10 +4,10 @@ use lib.ListN.{length}
 use borrow.Author.Tests.{eqb-true, not-true, not-false}
 use Rattle.question.specs.Question.{given, ask, next, outcome}
 use Rattle.question.proofs.Questions.{next-asked}
-use Rattle.unit.specs.Entry.{entryIn, entryQuestions, readEntry}
+use Rattle.entry.specs.Entry.{entryIn, entryQuestions, readEntry}
 use borrow.Author.Needs.{needs}
-use Rattle.unit.proofs.entry.read_entry.Statement.{statement}
-use Rattle.unit.proofs.entry.read_entry.Tie as tie
+use Rattle.entry.proofs.entry.read_entry.Statement.{statement}
+use Rattle.entry.proofs.entry.read_entry.Tie as tie
 
 whole : (c : tie.Else1) → length (c .before .before .before .args .bytes .now) ≡ 40
 whole c = eqb-true _ 40 (sym (c .before .is-whole .ensures) ∙ not-false _ (c .if1 .left))
