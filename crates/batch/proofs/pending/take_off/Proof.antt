@@ -75,13 +75,13 @@ loop-again c =
     let stays : Pending → Bool = λ p. not (inBatch (a .group) (a .t) p) in
     let p = getD m i free in
     let same = next-same (a .r .pending) m i (inv .3) free in
-    let next = left-next (a .r .count) (a .r .pending) i free (omega (arith, l .before .pending-count .ensures .0)) in (
+    let next = left-next (a .r .count) (a .r .pending) i free (omega (arith, l .before .pending-count .ensures .0)) in
+    let front = front-next stays m kept p (drop (i + 1) (waiting (a .r))) (omega arith) ∙ (rw (next, ← same) at (inv .4)) in (
       omega arith,
       omega (arith, c .one-if .ensures .1),
       simp length-set (inv .2),
       rest-same (a .r .pending) m i (inv .3) kept p (inv .1),
-      rw (c .one-if .ensures .0, c .before .in-batch .ensures)
-          (front-next stays m kept p (drop (i + 1) (waiting (a .r))) (omega arith) ∙ (rw (next, ← same) at (inv .4))),
+      rw (c .one-if .ensures .0, c .before .in-batch .ensures) front,
       inv .5,
     )
 

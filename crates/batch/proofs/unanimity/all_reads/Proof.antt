@@ -1,9 +1,9 @@
 -- What was seen so far, and that all reads are left, is that all are reads.
-use Prim.Native.Nat.{_≤_, _-_}
+use Prim.Native.Nat.{_+_, _≤_, _-_}
 use mathlib.Core.Path.{_≡_, refl, sym, _∙_}
 use mathlib.Core.Bool.{_&&_, and-true}
 use native.Mathlib.Omega.{arith}
-use lib.ListN.{drop}
+use lib.ListN.{getD, drop}
 use borrow.Author.Needs.{needs}
 use Rattle.rules.specs.Batch.{allReads}
 use Rattle.batch.specs.State.{waiting, free}
@@ -45,8 +45,11 @@ loop-again c =
     let l = c .before .before .before .before .before in
     let a = l .before .before .args in
     let r = a .t1 in
+    let p = getD (r .pending) (l .loop .i) free in
+    let rest = drop (l .loop .i + 1) (waiting r) in
     let next = left-next (r .count) (r .pending) (l .loop .i) free (omega (arith, l .before .pending-count .ensures .0)) in
-    (omega arith, rw (c .before .in-batch .ensures, reads-step (a .group) (a .t) _ _ (l .loop .all)) (rw next at (l .loop .inv .1)))
+    let seen = reads-step (a .group) (a .t) p rest (l .loop .all) ∙ (rw next at (l .loop .inv .1)) in
+    (omega arith, rw (c .before .in-batch .ensures) seen)
 
 returns : tie.Need-returns Inv-loop μ-loop
 returns c =
