@@ -61,19 +61,19 @@ module _ (first : Request) where
     abbrev was : Bool
     was = getD seen (p .request .process) false
 
-    -- one more request, whether or not it is of the batch
-    pub agree-step : (same : Bool)
-        → (same && (not (inBatch group t p) || ((isWrite (p .request) && sameWrite first (p .request)) && not was)))
-        && agree (set seen (p .request .process) (was || inBatch group t p)) (batchAt group t rest)
+    -- one more request, whether or not it is of the batch: whether its sender was seen, and is from now on
+    pub agree-step : (same : Bool) {mine is : Bool} → mine ≡ inBatch group t p → is ≡ was || inBatch group t p
+        → (same && (not mine || ((isWrite (p .request) && sameWrite first (p .request)) && not was)))
+        && agree (set seen (p .request .process) is) (batchAt group t rest)
         ≡ same && agree seen (batchAt group t (p ∷ rest))
-    agree-step same =
+    agree-step same m i =
         let batch = batchAt group t rest in
         let d = allSendersDiffer batch in
         let f = not (some (λ q. eqb (p .request .process) (q .process)) batch) in
         case (inBatch group t p)
-        (λ e. rw (e, or-true was, seen-more seen (p .request .process) batch room)
+        (λ e. rw (i, m, e, or-true was, seen-more seen (p .request .process) batch room)
         (shuffle same (agrees seen (p .request)) (every (agrees seen) batch) f d))
-        (λ e. rw (e, or-false was, set-getD seen (p .request .process) false, and-true same))
+        (λ e. rw (i, m, e, or-false was, set-getD seen (p .request .process) false, and-true same))
       where
         shuffle : (a b c d e : Bool) → (a && b) && ((c && d) && e) ≡ a && ((b && c) && (d && e))
         shuffle a b c d e = simp and-assoc
@@ -100,10 +100,12 @@ all-same [] = refl
 all-same (q ∷ batch) = rw (eq-eqb (q .variable) (q .variable) refl, eq-eqb (q .value) (q .value) refl)
 
 -- with no sender seen, and as many as there must be, that is unanimity
-pub agree-unanimous : (k : ℕ) (batch : List Request)
-    → agree (firstOf batch) (replicate 256 false) batch && eqb (length batch) (k + 1) ≡ unanimous k batch
-agree-unanimous k batch =
-    rw (agree-all (firstOf batch) batch, all-same batch)
+pub agree-unanimous : (k : ℕ) (batch : List Request) {same enough : Bool}
+    → same ≡ agree (firstOf batch) (replicate 256 false) batch
+    → enough ≡ eqb (length batch) (k + 1)
+    → same && enough ≡ unanimous k batch
+agree-unanimous k batch s e =
+    rw (s, e, agree-all (firstOf batch) batch, all-same batch)
     (shuffle (every isWrite batch) (allSame batch) (allSendersDiffer batch) (eqb (length batch) (k + 1)))
   where
     shuffle : (w s d e : Bool) → ((w && s) && d) && e ≡ ((e && w) && d) && s

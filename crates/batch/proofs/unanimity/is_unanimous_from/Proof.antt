@@ -74,14 +74,15 @@ loop-again c =
     let inv = l .loop .inv in
     let p = getD (r .pending) (l .loop .i) free in
     let rest = drop (l .loop .i + 1) (waiting r) in
-    let next = left-next (r .count) (r .pending) (l .loop .i) free (omega (arith, l .before .pending-count .ensures .0)) in (
+    let next = left-next (r .count) (r .pending) (l .loop .i) free (omega (arith, l .before .pending-count .ensures .0)) in
+    let mine = c .before .before .before .in-batch .ensures in
+    let size = size-step (a .group) (a .t) p rest (l .loop .size) ∙ (rw next at (inv .3)) in (
       omega arith,
       simp length-set (inv .1),
       omega (arith, c .one-if .ensures .1),
-      rw (c .one-if .ensures .0, c .before .before .before .in-batch .ensures)
-          (size-step (a .group) (a .t) p rest (l .loop .size) ∙ (rw next at (inv .3))),
-      rw (c .before .agrees .ensures, c .before .before .before .in-batch .ensures)
-          (agree-step (a .first) (a .group) (a .t) p rest (l .loop .seen) (omega arith) (l .loop .same) ∙ (rw next at (inv .4))),
+      rw (c .one-if .ensures .0, mine) size,
+      rw (c .before .agrees .ensures)
+          (agree-step (a .first) (a .group) (a .t) p rest (l .loop .seen) (omega arith) (l .loop .same) mine (rw mine refl) ∙ (rw next at (inv .4))),
     )
 
 cast-result : tie.Need-cast-result Inv-loop μ-loop
@@ -98,7 +99,7 @@ returns c =
     let none = left-none (r .count) (r .pending) (l .loop .i) (omega (arith, l .before .pending-count .ensures .0)) in
     let same = sym (and-true (l .loop .same)) ∙ (rw none at (l .loop .inv .4)) in
     let size = sym (add-zero (l .loop .size)) ∙ (rw none at (l .loop .inv .3)) in
-    rw (same, size, l .before .before .pre) (agree-unanimous (r .k) (batchAt (a .group) (a .t) (waiting r)))
+    agree-unanimous (r .k) (batchAt (a .group) (a .t) (waiting r)) (rw (l .before .before .pre) at same) (rw size refl)
 
 pub is-unanimous-from-spec : {M : Type 1} → statement M
 is-unanimous-from-spec =
