@@ -31,7 +31,9 @@ element-copy-out-if2 : tie.Need-element-copy-out-if2
 element-copy-out-if2 c = search needs
 
 returns-2 : tie.Need-returns-2
-returns-2 c = not-first _ _ _ (c .before .before .if1 .left) (c .if2 .taken)
+returns-2 c =
+    let a = c .before .before .before .args in
+    not-first (a .t1) (a .replica) (a .value) (c .before .before .if1 .left) (c .if2 .taken)
 
 element-write-next : tie.Need-element-write-next
 element-write-next c = search needs
@@ -43,7 +45,9 @@ element-write-next-2 : tie.Need-element-write-next-2
 element-write-next-2 c = search needs
 
 returns-3 : tie.Need-returns-3
-returns-3 c = is-first _ _ _ (c .before .before .if1 .left) (c .if2 .left)
+returns-3 c =
+    let a = c .before .before .before .args in
+    is-first (a .t1) (a .replica) (a .value) (c .before .before .if1 .left) (c .if2 .left)
 
 pub hear-reply-spec : {M : Type 1} → statement M
 hear-reply-spec =
