@@ -4,7 +4,7 @@ use std::collections::BTreeSet;
 use std::fmt::{self, Display, Formatter};
 
 use super::lent::Lent;
-use super::records::{note_free_part, some_request};
+use super::records::some_request;
 use super::tally::{Call, Event, Tally};
 use super::{same, Outcome};
 use crate::ffi;
@@ -171,13 +171,9 @@ impl Pair {
         self.other = found.replica;
         tally.answer(Call::Step, number_of(&expected));
         same("refusal", number_of(&expected), found.refusal, || self.input())?;
-        match expected {
-            Ok(count) => {
-                same("number of messages", count, found.count, || self.input())?;
-                note_messages(&output[..count * RECORD_SIZE], tally);
-            }
-            Err(_) => note_free_part(found.count != 0, tally),
-        }
+        let count = expected.unwrap_or(0);
+        same("number of messages", count, found.count, || self.input())?;
+        note_messages(&output[..count * RECORD_SIZE], tally);
         lent.check(&output, || self.input())?;
         self.note_changes(&before, tally);
         self.compare(at, tally)

@@ -162,15 +162,11 @@ fn read_message(k: u8, n: u8, bytes: &[u8], tally: &mut Tally) -> Outcome {
     let found = ffi::read_message(k, n, bytes);
     tally.answer(Call::ReadMessage, number_of(&expected));
     same("refusal", number_of(&expected), found.refusal, input)?;
+    let fields = expected.map(|message| message.fields()).unwrap_or_default();
+    same("message", fields, found.message.into(), input)?;
     match expected {
-        Ok(message) => {
-            same("message", message.fields(), found.message.into(), input)?;
-            message_written_again(k, n, &found.message, bytes)
-        }
-        Err(_) => {
-            note_free_part(found.message != ffi::Message::default(), tally);
-            Ok(())
-        }
+        Ok(_) => message_written_again(k, n, &found.message, bytes),
+        Err(_) => Ok(()),
     }
 }
 
@@ -180,13 +176,6 @@ fn message_written_again(k: u8, n: u8, message: &ffi::Message, bytes: &[u8]) -> 
     let refusal = ffi::write_message(k, n, *message, &mut destination);
     same("refusal", 0, refusal, input)?;
     same("bytes", bytes, &destination[..], input)
-}
-
-/// A refusal carries only its number; what else comes along is only counted.
-pub fn note_free_part(something: bool, tally: &mut Tally) {
-    if something {
-        tally.event(Event::FreePart);
-    }
 }
 
 fn write_request(

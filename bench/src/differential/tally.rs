@@ -77,51 +77,49 @@ pub enum Event {
     JournalCut,
     JournalNoise,
     JournalLong,
-    FreePart,
 }
 
-/// For each event its name and whether it must occur.
-const EVENTS: [(Event, &str, bool); 40] = [
-    (Event::RecordRun, "runs with records", true),
-    (Event::ReplicaRun, "runs with replicas", true),
-    (Event::MalformedRun, "runs with malformed arguments", true),
-    (Event::VoteRun, "runs with votes", true),
-    (Event::JournalRun, "runs with journals", true),
-    (Event::K0, "replicas with k = 0", true),
-    (Event::K1, "replicas with k = 1", true),
-    (Event::K2, "replicas with k = 2", true),
-    (Event::K3, "replicas with k = 3", true),
-    (Event::OneGroup, "replicas with one group", true),
-    (Event::TwoGroups, "replicas with two groups", true),
-    (Event::ThreeGroups, "replicas with three groups", true),
-    (Event::FourGroups, "replicas with four groups", true),
-    (Event::SmallDelta, "replicas with delta up to 5", true),
-    (Event::LargeDelta, "replicas with delta from 500,000", true),
-    (Event::OutOfOrder, "requests accepted after a later one of their group", true),
-    (Event::Repeated, "requests accepted again", true),
-    (Event::Late, "requests accepted after a later one was handled", true),
-    (Event::Reply, "replies sent", true),
-    (Event::Halt, "halts sent", true),
-    (Event::Freeze, "freezes", true),
-    (Event::PerformedWrite, "performed writes", true),
-    (Event::FullPending, "pending arrays filled", true),
-    (Event::FullStep, "steps with 67 messages", true),
-    (Event::ExactlyDelta, "steps exactly delta after an arrival", true),
-    (Event::LatestTime, "calls at local time 2^62", true),
-    (Event::RoomOf0, "steps with 0 bytes of output", true),
-    (Event::RoomOf1607, "steps with 1,607 bytes of output", true),
-    (Event::RoomOf1608, "steps with 1,608 bytes of output", true),
-    (Event::MoreRoom, "steps with more output", true),
-    (Event::ScrambledPlaces, "calls with scrambled free places", true),
-    (Event::DamagedMessage, "damaged or forged messages in lists", true),
-    (Event::RepeatedMessage, "repeated messages in lists", true),
-    (Event::EveryHalt, "halt counts of k+1 or more", true),
-    (Event::MalformedCall, "calls with malformed arguments", true),
-    (Event::JournalWhole, "journals of whole records", true),
-    (Event::JournalCut, "journals cut off", true),
-    (Event::JournalNoise, "journals of random bytes", true),
-    (Event::JournalLong, "journals of over 64 KiB", true),
-    (Event::FreePart, "refusals with something in an unsettled part", false),
+/// For each event its name; each must occur.
+const EVENTS: [(Event, &str); 39] = [
+    (Event::RecordRun, "runs with records"),
+    (Event::ReplicaRun, "runs with replicas"),
+    (Event::MalformedRun, "runs with malformed arguments"),
+    (Event::VoteRun, "runs with votes"),
+    (Event::JournalRun, "runs with journals"),
+    (Event::K0, "replicas with k = 0"),
+    (Event::K1, "replicas with k = 1"),
+    (Event::K2, "replicas with k = 2"),
+    (Event::K3, "replicas with k = 3"),
+    (Event::OneGroup, "replicas with one group"),
+    (Event::TwoGroups, "replicas with two groups"),
+    (Event::ThreeGroups, "replicas with three groups"),
+    (Event::FourGroups, "replicas with four groups"),
+    (Event::SmallDelta, "replicas with delta up to 5"),
+    (Event::LargeDelta, "replicas with delta from 500,000"),
+    (Event::OutOfOrder, "requests accepted after a later one of their group"),
+    (Event::Repeated, "requests accepted again"),
+    (Event::Late, "requests accepted after a later one was handled"),
+    (Event::Reply, "replies sent"),
+    (Event::Halt, "halts sent"),
+    (Event::Freeze, "freezes"),
+    (Event::PerformedWrite, "performed writes"),
+    (Event::FullPending, "pending arrays filled"),
+    (Event::FullStep, "steps with 67 messages"),
+    (Event::ExactlyDelta, "steps exactly delta after an arrival"),
+    (Event::LatestTime, "calls at local time 2^62"),
+    (Event::RoomOf0, "steps with 0 bytes of output"),
+    (Event::RoomOf1607, "steps with 1,607 bytes of output"),
+    (Event::RoomOf1608, "steps with 1,608 bytes of output"),
+    (Event::MoreRoom, "steps with more output"),
+    (Event::ScrambledPlaces, "calls with scrambled free places"),
+    (Event::DamagedMessage, "damaged or forged messages in lists"),
+    (Event::RepeatedMessage, "repeated messages in lists"),
+    (Event::EveryHalt, "halt counts of k+1 or more"),
+    (Event::MalformedCall, "calls with malformed arguments"),
+    (Event::JournalWhole, "journals of whole records"),
+    (Event::JournalCut, "journals cut off"),
+    (Event::JournalNoise, "journals of random bytes"),
+    (Event::JournalLong, "journals of over 64 KiB"),
 ];
 
 /// Lists of 0 to 65 messages occur, and records of 0 to 40 bytes.
@@ -183,8 +181,8 @@ impl Tally {
                 missing.push(format!("{name} never answered {answer}"));
             }
         }
-        for (event, name, wanted) in EVENTS.iter().filter(|row| self.wants_event(row.0)) {
-            if *wanted && self.times(*event) == 0 {
+        for (event, name) in EVENTS.iter().filter(|row| self.wants_event(row.0)) {
+            if self.times(*event) == 0 {
                 missing.push(format!("no {name}"));
             }
         }
@@ -242,7 +240,7 @@ impl Display for Tally {
     fn fmt(&self, f: &mut Formatter) -> fmt::Result {
         self.write_answers(f)?;
         writeln!(f, "what occurred")?;
-        for (event, name, _) in EVENTS.iter().filter(|row| self.wants_event(row.0)) {
+        for (event, name) in EVENTS.iter().filter(|row| self.wants_event(row.0)) {
             writeln!(f, "  {:>10} {name}", self.times(*event))?;
         }
         write_lengths("records and destinations", &self.records, f)?;

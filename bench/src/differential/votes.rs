@@ -1,7 +1,7 @@
 //! Votes and halt counts over lists of messages, forged, repeated and damaged
 //! ones among them.
 
-use super::records::{note_free_part, settings, some_message};
+use super::records::{settings, some_message};
 use super::tally::{Call, Event, Tally};
 use super::{same, Outcome};
 use crate::convert::to_list;
@@ -52,13 +52,7 @@ fn compare_votes(case: &Case, list: ffi::List, tally: &mut Tally) -> Outcome {
     let found = ffi::vote(case.k, case.n, case.query.into(), list);
     tally.answer(Call::Vote, number_of(&expected));
     same("refusal", number_of(&expected), found.refusal, input)?;
-    match expected {
-        Ok(value) => same("value", u64::from(value), found.value, input),
-        Err(_) => {
-            note_free_part(found.value != 0, tally);
-            Ok(())
-        }
-    }
+    same("value", expected.map_or(0, u64::from), found.value, input)
 }
 
 fn compare_halts(case: &Case, list: ffi::List, tally: &mut Tally) -> Outcome {
@@ -68,18 +62,11 @@ fn compare_halts(case: &Case, list: ffi::List, tally: &mut Tally) -> Outcome {
     let found = ffi::count_halts(case.k, case.n, group, process, list);
     tally.answer(Call::CountHalts, number_of(&expected));
     same("refusal", number_of(&expected), found.refusal, input)?;
-    match expected {
-        Ok(count) => {
-            if count > usize::from(case.k) {
-                tally.event(Event::EveryHalt);
-            }
-            same("number of halts", count as u64, found.value, input)
-        }
-        Err(_) => {
-            note_free_part(found.value != 0, tally);
-            Ok(())
-        }
+    let count = expected.unwrap_or(0);
+    if count > usize::from(case.k) {
+        tally.event(Event::EveryHalt);
     }
+    same("number of halts", count as u64, found.value, input)
 }
 
 fn some_case(random: &mut Random) -> Case {

@@ -1,14 +1,12 @@
 // Runs the cases of document 01 that are to be executed: a script from standard input, a case a line.
-// Each line is printed again with what the call answered. The expected text was worked out by a
-// separate program; docs/DECISIONS.md says from what.
+// Each line is printed again with what the call answered. That the expected text is what document 01
+// means is checked in bench/tests/expected.rs, against the independent model there.
 mod records;
 mod replicas;
 mod script;
 mod show;
 mod votes;
 
-ghost use Prim.Native.Nat.{_≤_};
-ghost use lib.ListN.{length};
 use replica::Replica;
 use script::Name;
 use script::Scan;

@@ -1,5 +1,5 @@
 -- The third demand: one claim about whole runs, and about what is voted and counted on their messages.
-use Prim.Native.Nat.{ℕ, _+_, _*_, _≤_, _<_}
+use Prim.Native.Nat.{ℕ, _+_, _≤_}
 use mathlib.Core.Path.{_≡_}
 use mathlib.Core.Logic.{_↔_}
 use mathlib.Core.Bool.{Bool, true, _&&_}
@@ -13,9 +13,9 @@ use Rattle.record.specs.declared.clock.Timestamp.{Timestamp}
 use Rattle.record.specs.declared.request.Request.{Request}
 use Rattle.record.specs.declared.message.Message.{Message}
 use Rattle.rules.specs.Lists.{keep, some}
-use Rattle.rules.specs.Batch.{Settings, Store, valueOf, failed, allReads, replyWith}
+use Rattle.rules.specs.Batch.{Settings, valueOf, failed, allReads, replyWith}
 use Rattle.rules.specs.Replica.{make, newState, stamped, requestsOf}
-use Rattle.rules.specs.Run.{Call, delivery, turn, run}
+use Rattle.rules.specs.Run.{Call, delivery, run}
 use Rattle.rules.specs.Machine.{machine, signedBy}
 use Rattle.rules.specs.Vote.{vote, haltCount}
 use Rattle.rules.specs.declared.Query.{Query}

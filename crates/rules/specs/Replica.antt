@@ -1,10 +1,10 @@
 -- The replica (document 01's storage card, Schneider's s-process): its state, and the three calls with their questions.
 use Prim.Native.Nat.{ℕ, zero, suc, _+_, _*_, _^_, min}
-use mathlib.Core.Bool.{Bool, true, false, cond, not, _&&_}
+use mathlib.Core.Bool.{Bool, false, cond, not, _&&_}
 use mathlib.Core.List.{List, [], _∷_, _++_, map}
 use lib.Dec.{eqb, leb, ltb}
 use lib.ListN.{length, take, drop}
-use Rattle.question.specs.Question.{Question, _else_, Answer, given, refused, ask, bind, after, within, unitQuestions}
+use Rattle.question.specs.Question.{Question, _else_, Answer, given, ask, bind, after, within}
 use Rattle.record.specs.Record.{readRequest, writeMessage}
 use Rattle.record.specs.declared.clock.Timestamp.{Timestamp}
 use Rattle.record.specs.declared.clock.LocalTime.{LocalTime}
