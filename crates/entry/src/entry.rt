@@ -102,7 +102,7 @@ fn check_setup(bytes: &[u8]) -> Outcome
 fn accept_setup(s: Setup) -> SetupRead
     ensures { λ r. ⌜ setupAnswer r ≡ ask (makeQuestions (settingsOf s) 1) (given (settingsOf s)) ⌝ }
 {
-    let m = replica::make(s.k, s.groups, s.owner, s.delta, 1);
+    let m = delivery::make(s.k, s.groups, s.owner, s.delta, 1);
     let made = m.outcome;
     match made {
         Outcome::Done => SetupRead::Accepted(s),

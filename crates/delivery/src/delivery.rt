@@ -21,7 +21,7 @@ pub struct Delivered {
 }
 
 // Questions 12 and 13.
-pub(crate) fn check_time(last: LocalTime, at: LocalTime, rest: Outcome) -> Outcome
+pub fn check_time(last: LocalTime, at: LocalTime, rest: Outcome) -> Outcome
     ensures { λ o. ⌜ outcome o ≡ ask (timeQuestions last at) (outcome rest) ⌝ }
 {
     let q13 = ask(last.0 <= at.0, 13, rest);

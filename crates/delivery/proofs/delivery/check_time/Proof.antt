@@ -1,8 +1,8 @@
 -- Each call puts one question in front of what was asked before.
 use borrow.Author.Needs.{needs}
 use Rattle.question.specs.Question.{ask}
-use Rattle.replica.proofs.delivery.check_time.Statement.{statement}
-use Rattle.replica.proofs.delivery.check_time.Tie as tie
+use Rattle.delivery.proofs.delivery.check_time.Statement.{statement}
+use Rattle.delivery.proofs.delivery.check_time.Tie as tie
 
 ask-requires : tie.Need-ask-requires
 ask-requires c κs = search needs

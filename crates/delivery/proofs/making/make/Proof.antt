@@ -5,8 +5,8 @@ use Rattle.question.specs.Question.{given, next, outcome}
 use Rattle.rules.specs.Replica.{makeQuestions, newState, make}
 use Rattle.question.proofs.Questions.{next-asked}
 use Rattle.batch.specs.State.{settings}
-use Rattle.replica.proofs.making.make.Statement.{statement}
-use Rattle.replica.proofs.making.make.Tie as tie
+use Rattle.delivery.proofs.making.make.Statement.{statement}
+use Rattle.delivery.proofs.making.make.Tie as tie
 
 -- the questions, asked by themselves, decide the answer
 decided : (c : tie.After-check-make) →

@@ -7,9 +7,9 @@ use borrow.Author.Needs.{needs}
 use Rattle.question.specs.Question.{Question, _else_, given, worked, ask, outcome}
 use Rattle.record.specs.Record.{readRequest}
 use Rattle.rules.specs.Replica.{timeQuestions}
-use Rattle.replica.proofs.Asked.{read-next, read-yes}
-use Rattle.replica.proofs.delivery.admit.Statement.{statement}
-use Rattle.replica.proofs.delivery.admit.Tie as tie
+use Rattle.delivery.proofs.Asked.{read-next, read-yes}
+use Rattle.delivery.proofs.delivery.admit.Statement.{statement}
+use Rattle.delivery.proofs.delivery.admit.Tie as tie
 
 asked : (c : tie.After-check-time) →
     let a = c .before .before .before .before .args in

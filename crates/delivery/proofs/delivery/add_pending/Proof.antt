@@ -5,8 +5,8 @@ use native.Mathlib.Numerals.{add-one}
 use lib.ListN.{length, length-map}
 use lib.Seq.{take-suc-set}
 use borrow.Author.Needs.{needs}
-use Rattle.replica.proofs.delivery.add_pending.Statement.{statement}
-use Rattle.replica.proofs.delivery.add_pending.Tie as tie
+use Rattle.delivery.proofs.delivery.add_pending.Statement.{statement}
+use Rattle.delivery.proofs.delivery.add_pending.Tie as tie
 
 mul-t7 : tie.Need-mul-t7
 mul-t7 c = search needs

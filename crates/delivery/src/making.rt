@@ -3,7 +3,7 @@ ghost use mathlib.Core.Path.{_≡_};
 ghost use Rattle.question.specs.Question.{given, worked, ask, after, verdict, outcome};
 ghost use Rattle.rules.specs.Replica.{makeQuestions, make};
 ghost use Rattle.batch.specs.State.{settings, stateOf};
-ghost use Rattle.replica.specs.State.{newReplica, leastState};
+ghost use Rattle.delivery.specs.Made.{newReplica, leastState};
 use batch::Replica;
 use question::Outcome;
 use question::ask;

@@ -1,6 +1,6 @@
 use borrow.Author.Needs.{needs}
-use Rattle.replica.proofs.delivery.refuse_later.Statement.{statement}
-use Rattle.replica.proofs.delivery.refuse_later.Tie as tie
+use Rattle.delivery.proofs.delivery.refuse_later.Statement.{statement}
+use Rattle.delivery.proofs.delivery.refuse_later.Tie as tie
 
 enum-told : tie.Need-enum-told
 enum-told c = search needs

@@ -1,8 +1,8 @@
 -- Each call puts one question in front of what was asked before: the last call comes first.
 use borrow.Author.Needs.{needs}
 use Rattle.question.specs.Question.{ask}
-use Rattle.replica.proofs.making.check_make.Statement.{statement}
-use Rattle.replica.proofs.making.check_make.Tie as tie
+use Rattle.delivery.proofs.making.check_make.Statement.{statement}
+use Rattle.delivery.proofs.making.check_make.Tie as tie
 
 mul-is-within : tie.Need-mul-is-within
 mul-is-within c = search needs

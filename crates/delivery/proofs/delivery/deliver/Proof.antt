@@ -7,9 +7,9 @@ use borrow.Author.Needs.{needs}
 use Rattle.record.specs.Record.{requestAnswer}
 use Rattle.rules.specs.Replica.{admit, deliver}
 use Rattle.batch.specs.State.{stateOf}
-use Rattle.replica.proofs.Asked.{place-counted, admit-place}
-use Rattle.replica.proofs.delivery.deliver.Statement.{statement}
-use Rattle.replica.proofs.delivery.deliver.Tie as tie
+use Rattle.delivery.proofs.Asked.{place-counted, admit-place}
+use Rattle.delivery.proofs.delivery.deliver.Statement.{statement}
+use Rattle.delivery.proofs.delivery.deliver.Tie as tie
 
 -- the array has 64 elements
 long : (c : tie.Start) → length (c .args .r .pending) ≡ 64
