@@ -36,6 +36,12 @@ typedef struct {
     export_local_time arrival;
 } export_pending;
 
+/* The first `count` are pending, the others are free. */
+typedef struct {
+    export_pending pending[64];
+    size_t count;
+} export_queue;
+
 /* By value: what a call gives takes the place of what it got. */
 typedef struct {
     uint8_t k;
@@ -45,8 +51,7 @@ typedef struct {
     uint64_t delta;
     export_local_time last;
     uint32_t variables[256];
-    export_pending pending[64]; /* the first `count` are pending, the others are free */
-    size_t count;
+    export_queue queue;
     uint64_t writes;
 } export_replica;
 

@@ -117,8 +117,7 @@ pub fn to_replica(model: &Replica) -> ffi::Replica {
         delta: model.delta,
         last: ffi::LocalTime(model.last.0),
         variables: model.variables,
-        pending,
-        count: model.pending.len(),
+        queue: ffi::Queue { pending, count: model.pending.len() },
         writes: model.writes,
     }
 }
@@ -129,7 +128,7 @@ pub fn from_replica(replica: &ffi::Replica) -> Option<Replica> {
     let mut model =
         Replica::make(replica.k, replica.groups, replica.owner, replica.delta, replica.number)
             .ok()?;
-    for waiting in replica.pending.get(..replica.count)? {
+    for waiting in replica.queue.pending.get(..replica.queue.count)? {
         let request = settings.check_request(&waiting.request.into()).ok()?;
         model.pending.push(Pending { request, arrival: LocalTime(waiting.arrival.0) });
     }

@@ -42,6 +42,14 @@ pub struct Pending {
     pub arrival: LocalTime,
 }
 
+/// The first `count` are pending, the others are free.
+#[repr(C)]
+#[derive(Clone, Copy, Debug)]
+pub struct Queue {
+    pub pending: [Pending; 64],
+    pub count: usize,
+}
+
 #[repr(C)]
 #[derive(Clone, Copy, Debug)]
 pub struct Replica {
@@ -52,8 +60,7 @@ pub struct Replica {
     pub delta: u64,
     pub last: LocalTime,
     pub variables: [u32; 256],
-    pub pending: [Pending; 64],
-    pub count: usize,
+    pub queue: Queue,
     pub writes: u64,
 }
 

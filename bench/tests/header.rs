@@ -14,6 +14,7 @@ fn header_is_c_with_the_same_structs() {
         ("export_request", size_of::<ffi::Request>()),
         ("export_message", size_of::<ffi::Message>()),
         ("export_pending", size_of::<ffi::Pending>()),
+        ("export_queue", size_of::<ffi::Queue>()),
         ("export_replica", size_of::<ffi::Replica>()),
         ("export_query", size_of::<ffi::Query>()),
         ("export_list", size_of::<ffi::List>()),

@@ -47,8 +47,8 @@ fn some_time(replica: &ffi::Replica, random: &mut Random) -> u64 {
 fn some_replica(random: &mut Random) -> ffi::Replica {
     let model = Replica::make(2, 3, 2, 5, 1).expect("allowed settings");
     let mut replica = to_replica(&model);
-    replica.count = random.index(PENDING_LIMIT + 1);
-    for place in &mut replica.pending {
+    replica.queue.count = random.index(PENDING_LIMIT + 1);
+    for place in &mut replica.queue.pending {
         let request = some_request(2, 3, random).into();
         *place = ffi::Pending { request, arrival: ffi::LocalTime(random.below(50)) };
     }
@@ -67,10 +67,10 @@ fn spoil(replica: &mut ffi::Replica, random: &mut Random) {
         3 => replica.number = random.byte(),
         4 => replica.delta = edge,
         5 => replica.last.0 = edge,
-        6 => replica.count = edge as usize,
+        6 => replica.queue.count = edge as usize,
         7 => replica.writes = edge,
         8 => replica.variables[0] = edge as u32,
-        _ => spoil_pending(&mut replica.pending, edge, random),
+        _ => spoil_pending(&mut replica.queue.pending, edge, random),
     }
 }
 

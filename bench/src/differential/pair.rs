@@ -190,8 +190,8 @@ impl Pair {
     /// Puts something else into the free places of the other side's array.
     pub fn scramble(&mut self, random: &mut Random, tally: &mut Tally) {
         tally.event(Event::ScrambledPlaces);
-        let count = self.other.count.min(PENDING_LIMIT);
-        let (taken, free) = self.other.pending.split_at_mut(count);
+        let queue = &mut self.other.queue;
+        let (taken, free) = queue.pending.split_at_mut(queue.count.min(PENDING_LIMIT));
         for place in free {
             *place = some_pending(taken, self.making, random);
         }
@@ -281,8 +281,8 @@ fn same_replica(model: &Replica, other: &ffi::Replica, input: &dyn Fn() -> Strin
     same("last local time", model.last.0, other.last.0, input)?;
     same("performed writes", model.writes, other.writes, input)?;
     same_variables(&model.variables, &other.variables, input)?;
-    same("number of pending requests", model.pending.len(), other.count, input)?;
-    for (expected, found) in model.pending.iter().zip(&other.pending) {
+    same("number of pending requests", model.pending.len(), other.queue.count, input)?;
+    for (expected, found) in model.pending.iter().zip(&other.queue.pending) {
         same("pending request", ffi::Pending::from(expected), *found, input)?;
     }
     Ok(())

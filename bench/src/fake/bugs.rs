@@ -209,8 +209,9 @@ pub fn deliver(replica: &mut Replica, bytes: &[u8], at: LocalTime) -> Result<(),
 
 /// Takes one more request out of the array, if it looks like one.
 pub fn before_step(model: &mut Replica, replica: &ffi::Replica) {
-    if has(Bug::FreePlaceTaken) && replica.count < PENDING_LIMIT {
-        let longer = ffi::Replica { count: replica.count + 1, ..*replica };
+    if has(Bug::FreePlaceTaken) && replica.queue.count < PENDING_LIMIT {
+        let mut longer = *replica;
+        longer.queue.count += 1;
         if let Some(longer) = from_replica(&longer) {
             *model = longer;
         }

@@ -7,7 +7,7 @@ use Rattle.record.specs.declared.clock.Timestamp.{Timestamp}
 use Rattle.record.specs.declared.clock.LocalTime.{LocalTime}
 use Rattle.record.specs.declared.request.Request.{Request}
 use Rattle.rules.specs.Lists.{keep}
-use Rattle.rules.specs.Replica.{State, stamped, requestsOf, ofGroup, earlier}
+use Rattle.rules.specs.Replica.{stamped, requestsOf, ofGroup, earlier}
 use Rattle.rules.specs.declared.Pending.{Pending}
 use Rattle.batch.specs.State.{blankRequest}
 use Rattle.batch.specs.declared.pending.Head.{Head}
@@ -33,12 +33,10 @@ headIn group pending = headFrom group Nothing pending
 abbrev pub isLate : LocalTime → ℕ → LocalTime → Bool
 isLate first delta at = ltb (first .0 + delta) (at .0)
 
+-- the head, where its first arrival is late
 abbrev pub whereLate : ℕ → LocalTime → Head → Head
 whereLate delta at Nothing = Nothing
 whereLate delta at (At t first) = cond (isLate first delta at) (At t first) Nothing
-
-abbrev pub stableHead : ℕ → LocalTime → State → Head
-stableHead group at s = whereLate (s .settings .delta) at (headIn group (s .pending))
 
 -- ── the batch of a group and a timestamp ──
 

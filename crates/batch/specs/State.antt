@@ -6,21 +6,22 @@ use Rattle.record.specs.declared.request.Request.{Request}
 use Rattle.rules.specs.Batch.{Settings}
 use Rattle.rules.specs.Replica.{State}
 use Rattle.rules.specs.declared.Pending.{Pending}
+use Rattle.batch.specs.declared.queue.Queue.{Queue}
 use Rattle.batch.specs.declared.state.Replica.{Replica}
 
 abbrev pub settings : ℕ → ℕ → ℕ → ℕ → Settings
 settings k n owner delta = record { k = k; groups = n; owner = owner; delta = delta }
 
 -- the pending requests: the first of the array, as many as are counted. What stands behind them is free
-abbrev pub waiting : Replica → List Pending
-waiting r = take (r .count) (r .pending)
+abbrev pub waiting : Queue → List Pending
+waiting q = take (q .count) (q .pending)
 
 abbrev pub stateOf : Replica → State
 stateOf r = record {
   settings = settings (r .k) (r .groups) (r .owner) (r .delta);
   number = r .number;
   store = record { variables = r .variables; writes = r .writes };
-  pending = waiting r;
+  pending = waiting (r .queue);
   last = r .last;
 }
 

@@ -1,13 +1,12 @@
 // The batch of a group among the pending requests: finding it, and taking it off.
 ghost use mathlib.Core.Path.{_≡_};
-ghost use Prim.Native.Nat.{_≤_};
-ghost use mathlib.Core.Bool.{cond, not};
+ghost use mathlib.Core.Bool.{not};
 ghost use Rattle.rules.specs.Lists.{keep};
 ghost use Rattle.rules.specs.Replica.{earlier};
-ghost use Rattle.batch.specs.State.{waiting, stateOf, withPending};
-ghost use Rattle.batch.specs.Head.{meet, join, headIn, isLate, stableHead, inBatch};
-use crate::state::Replica;
-use crate::state::pending_count;
+ghost use Rattle.batch.specs.State.{waiting};
+ghost use Rattle.batch.specs.Head.{meet, join, headIn, isLate, whereLate, inBatch};
+use crate::queue::Queue;
+use crate::queue::pending_count;
 use record::LocalTime;
 use record::Timestamp;
 use rules::Pending;
@@ -55,14 +54,14 @@ fn meet(group: u8, h: Head, p: Pending) -> Head
     join(h, t, arrival)
 }
 
-fn head_of(r: Replica, group: u8) -> Head
-    ensures { λ h. ⌜ h ≡ headIn group (waiting r) ⌝ }
+fn head_of(q: Queue, group: u8) -> Head
+    ensures { λ h. ⌜ h ≡ headIn group (waiting q) ⌝ }
 {
-    let n = pending_count(r);
+    let n = pending_count(q);
     let mut h = Head::Nothing;
     let mut i: usize = 0;
     while i < n {
-        let p = r.pending[i];
+        let p = q.pending[i];
         h = meet(group, h, p);
         i += 1;
     }
@@ -80,13 +79,13 @@ fn is_late(first: LocalTime, delta: u64, at: LocalTime) -> bool
 }
 
 // The head of a group where its batch is stable.
-pub fn stable_head(r: Replica, group: u8, at: LocalTime) -> Head
-    ensures { λ h. ⌜ h ≡ stableHead group at (stateOf r) ⌝ }
+pub fn stable_head(q: Queue, group: u8, delta: u64, at: LocalTime) -> Head
+    ensures { λ h. ⌜ h ≡ whereLate delta at (headIn group (waiting q)) ⌝ }
 {
-    match head_of(r, group) {
+    match head_of(q, group) {
         Head::Nothing => Head::Nothing,
         Head::At(t, first) => {
-            if is_late(first, r.delta, at) {
+            if is_late(first, delta, at) {
                 Head::At(t, first)
             } else {
                 Head::Nothing
@@ -102,25 +101,20 @@ pub fn in_batch(group: u8, t: Timestamp, p: Pending) -> bool
     (request.group == group) & (request.timestamp.0 == t.0)
 }
 
-pub(crate) fn one_if(b: bool) -> usize
-    ensures is { λ n. ⌜ n ≡ cond b 1 0 ⌝ }
-    ensures most { λ n. ⌜ n ≤ 1 ⌝ }
+// The queue without the batch: one pass, each request that stays moves up once.
+pub fn take_off(q: Queue, group: u8, t: Timestamp) -> Queue
+    ensures { λ s. ⌜ waiting s ≡ keep (λ p. not (inBatch group t p)) (waiting q) ⌝ }
 {
-    if b { 1 } else { 0 }
-}
-
-// The replica without the batch: one pass, each request that stays moves up once.
-pub fn take_off(r: Replica, group: u8, t: Timestamp) -> Replica
-    ensures { λ s. ⌜ stateOf s ≡ withPending (keep (λ p. not (inBatch group t p)) (waiting r)) (stateOf r) ⌝ }
-{
-    let n = pending_count(r);
-    let mut next = r;
+    let n = pending_count(q);
+    let mut next = q;
     let mut kept: usize = 0;
     let mut i: usize = 0;
     while i < n {
         let p = next.pending[i];
-        next.pending[kept] = p;
-        kept += one_if(!in_batch(group, t, p));
+        if !in_batch(group, t, p) {
+            next.pending[kept] = p;
+            kept += 1;
+        }
         i += 1;
     }
     next.count = kept;

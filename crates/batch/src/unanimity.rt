@@ -1,13 +1,13 @@
 // What a batch is: all reads, or a unanimous write.
 ghost use mathlib.Core.Path.{_≡_};
-ghost use mathlib.Core.Bool.{_&&_};
+ghost use Prim.Native.Nat.{_≤_};
+ghost use mathlib.Core.Bool.{cond, _&&_};
 ghost use Rattle.rules.specs.Batch.{isWrite, sameWrite, allReads, unanimous};
 ghost use Rattle.batch.specs.State.{waiting};
 ghost use Rattle.batch.specs.Head.{batchAt, firstOf};
 use crate::pending::in_batch;
-use crate::pending::one_if;
-use crate::state::Replica;
-use crate::state::pending_count;
+use crate::queue::Queue;
+use crate::queue::pending_count;
 use record::Request;
 use record::Timestamp;
 
@@ -15,14 +15,14 @@ const READ: u8 = 1;
 
 const WRITE: u8 = 2;
 
-pub fn all_reads(r: Replica, group: u8, t: Timestamp) -> bool
-    ensures { λ b. ⌜ b ≡ allReads (batchAt group t (waiting r)) ⌝ }
+pub fn all_reads(q: Queue, group: u8, t: Timestamp) -> bool
+    ensures { λ b. ⌜ b ≡ allReads (batchAt group t (waiting q)) ⌝ }
 {
-    let n = pending_count(r);
+    let n = pending_count(q);
     let mut all = true;
     let mut i: usize = 0;
     while i < n {
-        let p = r.pending[i];
+        let p = q.pending[i];
         let request = p.request;
         all = all & (!in_batch(group, t, p) | (request.kind == READ));
         i += 1;
@@ -31,13 +31,13 @@ pub fn all_reads(r: Replica, group: u8, t: Timestamp) -> bool
 }
 
 // The first request of the batch, or a blank one.
-pub fn first_of(r: Replica, group: u8, t: Timestamp) -> Request
-    ensures { λ q. ⌜ q ≡ firstOf (batchAt group t (waiting r)) ⌝ }
+pub fn first_of(q: Queue, group: u8, t: Timestamp) -> Request
+    ensures { λ r. ⌜ r ≡ firstOf (batchAt group t (waiting q)) ⌝ }
 {
-    let n = pending_count(r);
+    let n = pending_count(q);
     let mut i: usize = 0;
     while i < n {
-        let p = r.pending[i];
+        let p = q.pending[i];
         if in_batch(group, t, p) {
             return p.request;
         }
@@ -53,6 +53,13 @@ pub fn first_of(r: Replica, group: u8, t: Timestamp) -> Request
     }
 }
 
+fn one_if(b: bool) -> usize
+    ensures is { λ n. ⌜ n ≡ cond b 1 0 ⌝ }
+    ensures most { λ n. ⌜ n ≤ 1 ⌝ }
+{
+    if b { 1 } else { 0 }
+}
+
 // A write equal to the first one.
 fn agrees(first: Request, q: Request) -> bool
     ensures { λ b. ⌜ b ≡ isWrite q && sameWrite first q ⌝ }
@@ -61,31 +68,31 @@ fn agrees(first: Request, q: Request) -> bool
 }
 
 // Exactly k + 1 requests, all writes, all from different processes, equal in variable and value.
-pub fn is_unanimous(r: Replica, group: u8, t: Timestamp) -> bool
-    ensures { λ b. ⌜ b ≡ unanimous (r .k) (batchAt group t (waiting r)) ⌝ }
+pub fn is_unanimous(q: Queue, k: u8, group: u8, t: Timestamp) -> bool
+    ensures { λ b. ⌜ b ≡ unanimous k (batchAt group t (waiting q)) ⌝ }
 {
-    is_unanimous_from(r, group, t, first_of(r, group, t))
+    is_unanimous_from(q, k, group, t, first_of(q, group, t))
 }
 
 // The same, where the first request of the batch is known.
-fn is_unanimous_from(r: Replica, group: u8, t: Timestamp, first: Request) -> bool
-    requires { ⌜ first ≡ firstOf (batchAt group t (waiting r)) ⌝ }
-    ensures { λ b. ⌜ b ≡ unanimous (r .k) (batchAt group t (waiting r)) ⌝ }
+fn is_unanimous_from(q: Queue, k: u8, group: u8, t: Timestamp, first: Request) -> bool
+    requires { ⌜ first ≡ firstOf (batchAt group t (waiting q)) ⌝ }
+    ensures { λ b. ⌜ b ≡ unanimous k (batchAt group t (waiting q)) ⌝ }
 {
-    let n = pending_count(r);
+    let n = pending_count(q);
     let mut seen = [false; 256];
     let mut size: usize = 0;
     let mut same = true;
     let mut i: usize = 0;
     while i < n {
-        let p = r.pending[i];
-        let q = p.request;
+        let p = q.pending[i];
+        let request = p.request;
         let mine = in_batch(group, t, p);
-        let sender = q.process as usize;
-        same = same & (!mine | (agrees(first, q) & !seen[sender]));
+        let sender = request.process as usize;
+        same = same & (!mine | (agrees(first, request) & !seen[sender]));
         seen[sender] = seen[sender] | mine;
         size += one_if(mine);
         i += 1;
     }
-    same & (size == r.k as usize + 1)
+    same & (size == k as usize + 1)
 }

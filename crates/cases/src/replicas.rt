@@ -14,7 +14,7 @@ fn show_replica(r: Replica) {
     crate::show::number(r.variables[0] as u64);
     crate::show::number(r.variables[4] as u64);
     crate::show::number(r.writes);
-    crate::show::number(r.count as u64);
+    crate::show::number(r.queue.count as u64);
     crate::show::number(r.last.0);
 }
 
@@ -37,7 +37,9 @@ pub(crate) fn spoil(s: Scan, old: Replica) -> Replica {
     r.owner = s.byte(2);
     r.delta = s.number(3);
     r.number = s.byte(4);
-    r.count = s.number(5) as usize;
+    let mut queue = old.queue;
+    queue.count = s.number(5) as usize;
+    r.queue = queue;
     let last = LocalTime(s.number(6));
     r.last = last;
     r

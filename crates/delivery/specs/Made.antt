@@ -14,8 +14,7 @@ newReplica k n owner delta number = record {
   delta = delta;
   last = record { 0 = 0 };
   variables = replicate 256 0;
-  pending = replicate 64 free;
-  count = 0;
+  queue = record { pending = replicate 64 free; count = 0 };
   writes = 0;
 }
 

@@ -1,12 +1,13 @@
 // Delivery of a request.
 ghost use mathlib.Core.Path.{_≡_};
 ghost use Prim.Native.Nat.{ℕ, _<_};
-ghost use mathlib.Core.List.{[], _∷_};
+ghost use mathlib.Core.List.{[], _∷_, _++_};
 ghost use lib.Dec.{ltb};
 ghost use Rattle.question.specs.Question.{_else_, given, refused, ask, bind, next, after, verdict, outcome};
 ghost use Rattle.record.specs.Record.{requestAnswer, readRequest};
 ghost use Rattle.rules.specs.Replica.{timeQuestions, arrive, deliver};
-ghost use Rattle.batch.specs.State.{stateOf};
+ghost use Rattle.batch.specs.State.{waiting, stateOf};
+use batch::Queue;
 use batch::Replica;
 use question::Outcome;
 use question::ask;
@@ -49,18 +50,29 @@ fn refuse_later(read: RequestRead, number: u8) -> RequestRead
     }
 }
 
+// The queue with one more pending request, behind the others.
+fn push(q: Queue, p: Pending) -> Queue
+    requires { ⌜ q .count < 64 ⌝ }
+    ensures { λ s. ⌜ waiting s ≡ waiting q ++ (p ∷ []) ⌝ }
+{
+    let i = q.count;
+    let mut next = q;
+    next.pending[i] = p;
+    next.count = i + 1;
+    next
+}
+
 // The replica with one more pending request.
 fn add_pending(r: Replica, request: Request, at: LocalTime) -> Replica
-    requires { ⌜ r .count < 64 ⌝ }
+    requires { ⌜ r .queue .count < 64 ⌝ }
     ensures { λ s. ⌜ stateOf s ≡ arrive (stateOf r) request at ⌝ }
 {
-    let i = r.count;
-    let mut next = r;
-    next.pending[i] = Pending {
+    let p = Pending {
         request,
         arrival: at,
     };
-    next.count = i + 1;
+    let mut next = r;
+    next.queue = push(r.queue, p);
     next.last = at;
     next
 }
@@ -70,7 +82,7 @@ pub fn deliver(r: Replica, bytes: &[u8], at: LocalTime) -> Delivered
     ensures state { λ d. ⌜ stateOf (d .replica) ≡ after (stateOf r) (deliver (stateOf r) (now (bytes .entry)) at) ⌝ }
     ensures kept { λ d. ⌜ ((q : ℕ) → outcome (d .outcome) ≡ refused q → d .replica ≡ r) ⌝ }
 {
-    match admit(r.k, r.groups, r.last, r.count, bytes, at) {
+    match admit(r.k, r.groups, r.last, r.queue.count, bytes, at) {
         RequestRead::Accepted(request) => Delivered {
             outcome: Outcome::Done,
             replica: add_pending(r, request, at),

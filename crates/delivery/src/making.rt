@@ -4,6 +4,7 @@ ghost use Rattle.question.specs.Question.{given, worked, ask, after, verdict, o
 ghost use Rattle.rules.specs.Replica.{makeQuestions, make};
 ghost use Rattle.batch.specs.State.{settings, stateOf};
 ghost use Rattle.delivery.specs.Made.{newReplica, leastState};
+use batch::Queue;
 use batch::Replica;
 use question::Outcome;
 use question::ask;
@@ -51,6 +52,7 @@ fn new_replica(k: u8, n: u8, owner: u8, delta: u64, number: u8) -> Replica
     };
     let variables = [0u32; 256];
     let pending = [free; 64];
+    let queue = Queue { pending, count: 0 };
     Replica {
         k,
         groups: n,
@@ -59,8 +61,7 @@ fn new_replica(k: u8, n: u8, owner: u8, delta: u64, number: u8) -> Replica
         delta,
         last: LocalTime(0),
         variables,
-        pending,
-        count: 0,
+        queue,
         writes: 0,
     }
 }

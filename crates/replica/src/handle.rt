@@ -4,9 +4,11 @@ ghost use Prim.Native.Nat.{_+_, _≤_};
 ghost use mathlib.Core.List.{[], _∷_};
 ghost use mathlib.Core.Bool.{_&&_, not};
 ghost use lib.Dec.{eqb};
+ghost use Rattle.rules.specs.Lists.{keep};
 ghost use Rattle.rules.specs.Batch.{failed, oneMore, perform, fail};
 ghost use Rattle.rules.specs.Replica.{groupTimestamp, handleBatch};
-ghost use Rattle.batch.specs.State.{waiting, stateOf};
+ghost use Rattle.batch.specs.State.{waiting, stateOf, withPending};
+ghost use Rattle.batch.specs.Head.{inBatch};
 ghost use Rattle.replica.specs.State.{withStore};
 ghost use Rattle.replica.specs.Output.{sends, reached};
 use crate::output::send_halts;
@@ -65,6 +67,15 @@ fn failing(r: Replica) -> Replica
     next
 }
 
+// The replica without a batch.
+fn without(r: Replica, group: u8, t: Timestamp) -> Replica
+    ensures { λ s. ⌜ stateOf s ≡ withPending (keep (λ p. not (inBatch group t p)) (waiting (r .queue))) (stateOf r) ⌝ }
+{
+    let mut next = r;
+    next.queue = take_off(r.queue, group, t);
+    next
+}
+
 // The batch of a group with its least timestamp.
 pub(crate) fn handle_batch(
     r: Replica,
@@ -73,28 +84,28 @@ pub(crate) fn handle_batch(
     output: &mut [u8],
     count: usize,
 ) -> Progress
-    requires { ⌜ t ≡ groupTimestamp group (waiting r) ⌝ }
+    requires { ⌜ t ≡ groupTimestamp group (waiting (r .queue)) ⌝ }
     requires { ⌜ count ≤ 1000000000 ⌝ }
     ensures effect { λ p. ⌜ reached p (now (output .exit)) ≡ sends count (now (output .entry)) (handleBatch group (stateOf r)) ⌝ }
     ensures most { λ p. ⌜ p .count ≤ count + 256 ⌝ }
 {
-    let rest = take_off(r, group, t);
-    if all_reads(r, group, t) {
+    if all_reads(r.queue, group, t) {
         let sent = send_replies(r, group, t, output, count);
         return Progress {
-            replica: rest,
+            replica: without(r, group, t),
             count: sent,
         };
     }
+    let rest = without(r, group, t);
     if !may_change(r, group) {
         return Progress {
             replica: rest,
             count,
         };
     }
-    if is_unanimous(r, group, t) {
+    if is_unanimous(r.queue, r.k, group, t) {
         return Progress {
-            replica: performed(rest, first_of(r, group, t)),
+            replica: performed(rest, first_of(r.queue, group, t)),
             count,
         };
     }

@@ -78,21 +78,22 @@ pub(crate) fn send_replies(
     count: usize,
 ) -> usize
     requires { ⌜ count ≤ 1000000000 ⌝ }
-    ensures count { λ c. ⌜ c ≡ count + length (batchAt group t (waiting r)) ⌝ }
+    ensures count { λ c. ⌜ c ≡ count + length (batchAt group t (waiting (r .queue))) ⌝ }
     ensures most { λ c. ⌜ c ≤ count + 64 ⌝ }
-    ensures output { λ c. ⌜ now (output .exit) ≡ writeAt (r .k) (r .groups) count (map (replyTo (stateOf r .store) (r .number)) (batchAt group t (waiting r))) (now (output .entry)) ⌝ }
+    ensures output { λ c. ⌜ now (output .exit) ≡ writeAt (r .k) (r .groups) count (map (replyTo (stateOf r .store) (r .number)) (batchAt group t (waiting (r .queue)))) (now (output .entry)) ⌝ }
 {
-    let n = pending_count(r);
+    let q = r.queue;
+    let n = pending_count(q);
     let mut next = count;
     let mut i: usize = 0;
     while i < n {
-        let p = r.pending[i];
+        let p = q.pending[i];
         if in_batch(group, t, p) {
-            let q = p.request;
+            let request = p.request;
             put(
                 r.k,
                 r.groups,
-                reply_to(&r.variables, r.number, q),
+                reply_to(&r.variables, r.number, request),
                 output,
                 next,
             );

@@ -47,7 +47,7 @@ fn visits(r: Replica, at: LocalTime, output: &mut [u8]) -> Progress
     // How many groups are done.
     let mut group: u8 = 0;
     while group < n {
-        match stable_head(replica, group + 1, at) {
+        match stable_head(replica.queue, group + 1, replica.delta, at) {
             Head::Nothing => {
                 group += 1;
             }

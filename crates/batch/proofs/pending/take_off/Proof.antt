@@ -1,18 +1,18 @@
 -- What stands in front, and what stays of the rest, is what stays of all.
 use Prim.Native.Nat.{_+_, _≤_, _-_}
 use mathlib.Core.Path.{_≡_, refl, sym, ap, _∙_}
-use mathlib.Core.Bool.{Bool, not}
-use mathlib.Core.List.{List, [], _++_, append-nil}
+use mathlib.Core.Logic.{⊎-elim}
+use mathlib.Core.Bool.{Bool, true, false, not}
+use mathlib.Core.List.{_++_, append-nil}
 use native.Mathlib.Omega.{arith}
 use lib.ListN.{length, getD, take, drop, length-set, length-map}
 use borrow.Author.Needs.{needs}
 use Rattle.rules.specs.Lists.{keep}
-use Rattle.rules.specs.Replica.{State}
 use Rattle.rules.specs.declared.Pending.{Pending}
-use Rattle.batch.specs.State.{waiting, stateOf, free, withPending}
+use Rattle.batch.specs.State.{waiting, free}
 use Rattle.batch.specs.Head.{inBatch}
 use Rattle.batch.proofs.Left.{left-next, left-none}
-use Rattle.batch.proofs.Compact.{next-same, rest-same, front-next}
+use Rattle.batch.proofs.Compact.{next-same, rest-same, rest-left, front-next}
 use Rattle.batch.proofs.pending.take_off.Statement.{statement}
 use Rattle.batch.proofs.pending.take_off.Tie as tie
 
@@ -23,7 +23,6 @@ Inv-loop group t n next₀ kept₀ i₀ next kept i =
     × (length (next .pending) ≡ 64)
     × (drop i (next .pending) ≡ drop i (next₀ .pending))
     × (take kept (next .pending) ++ keep (λ p. not (inBatch group t p)) (drop i (waiting next₀)) ≡ keep (λ p. not (inBatch group t p)) (waiting next₀))
-    × (withPending [] (stateOf next) ≡ withPending [] (stateOf next₀))
 
 abbrev μ-loop : tie.MeasureT-loop
 μ-loop group t n next₀ kept₀ i₀ next kept i = n - i
@@ -34,8 +33,7 @@ pending-count-requires c κs = search needs
 loop-holds : tie.Need-loop-holds Inv-loop μ-loop
 loop-holds c =
     let s = c .before in
-    let l = s .args .r .pending in
-    (omega arith, omega arith, sym (length-map l _) ∙ s .good .0 .1 .1 .1 .1 .1 .1 .1 .1 .1 .0 .1 .0 .1, refl, refl, refl)
+    (omega arith, omega arith, sym (length-map (s .args .q .pending) _) ∙ s .good .0 .1 .1 .0 .1 .0 .1, refl, refl)
 
 mul-p : tie.Need-mul-p Inv-loop μ-loop
 mul-p c = search needs
@@ -43,17 +41,14 @@ mul-p c = search needs
 element-copy-out-p : tie.Need-element-copy-out-p Inv-loop μ-loop
 element-copy-out-p c = search needs
 
+in-batch-requires : tie.Need-in-batch-requires Inv-loop μ-loop
+in-batch-requires c κs = search needs
+
 mul-p-2 : tie.Need-mul-p-2 Inv-loop μ-loop
 mul-p-2 c = search needs
 
 element-set-from-p : tie.Need-element-set-from-p Inv-loop μ-loop
 element-set-from-p c = search needs
-
-in-batch-requires : tie.Need-in-batch-requires Inv-loop μ-loop
-in-batch-requires c κs = search needs
-
-one-if-requires : tie.Need-one-if-requires Inv-loop μ-loop
-one-if-requires c κs = search needs
 
 add-kept : tie.Need-add-kept Inv-loop μ-loop
 add-kept c = search needs
@@ -74,25 +69,36 @@ loop-again c =
     let inv = l .loop .inv in
     let stays : Pending → Bool = λ p. not (inBatch (a .group) (a .t) p) in
     let p = getD m i free in
-    let same = next-same (a .r .pending) m i (inv .3) free in
-    let next = left-next (a .r .count) (a .r .pending) i free (omega (arith, l .before .pending-count .ensures .0)) in
-    let front = front-next stays m kept p (drop (i + 1) (waiting (a .r))) (omega arith) ∙ (rw (next, ← same) at (inv .4)) in (
+    let same = next-same (a .q .pending) m i (inv .3) free in
+    let next = left-next (a .q .count) (a .q .pending) i free (omega (arith, l .before .pending-count .ensures .0)) in
+    let front = rw (next, ← same) at (inv .4) in
+    let asked = ap not (sym (c .before .in-batch .ensures)) in
+    ⊎-elim
+    (λ w.
+    let here : stays p ≡ true = asked ∙ w .0 .taken in (
       omega arith,
-      omega (arith, c .one-if .ensures .1),
-      simp length-set (inv .2),
-      rest-same (a .r .pending) m i (inv .3) kept p (inv .1),
-      rw (c .one-if .ensures .0, c .before .in-batch .ensures) front,
-      inv .5,
-    )
+      omega (arith, w .2),
+      rw (w .1) (simp length-set (inv .2)),
+      rw (w .1) (rest-same (a .q .pending) m i (inv .3) kept p (inv .1)),
+      rw (w .1, w .2) (front-next stays m kept p (drop (i + 1) (waiting (a .q))) here (omega arith) ∙ front),
+    ))
+    (λ w.
+    let there : stays p ≡ false = asked ∙ w .0 .left in (
+      omega arith,
+      omega (arith, w .2),
+      rw (w .1) (inv .2),
+      rw (w .1) (rest-left (a .q .pending) m i (inv .3)),
+      rw (w .1, w .2) (rw there at front),
+    ))
+    (c .if1 .came)
 
 returns : tie.Need-returns Inv-loop μ-loop
 returns c =
     let l = c .before in
-    let a = l .before .before .args in
-    let none = left-none (a .r .count) (a .r .pending) (l .loop .i) (omega (arith, l .before .pending-count .ensures .0)) in
+    let q = l .before .before .args .q in
+    let none = left-none (q .count) (q .pending) (l .loop .i) (omega (arith, l .before .pending-count .ensures .0)) in
     let front = sym (append-nil (take (l .loop .kept) (l .loop .next .pending))) ∙ (rw none at (l .loop .inv .4)) in
-    let stay = keep (λ p. not (inBatch (a .group) (a .t) p)) (waiting (a .r)) in
-    ap (λ (p : List Pending). withPending p (stateOf (l .loop .next))) front ∙ ap (λ (s : State). withPending stay s) (l .loop .inv .5)
+    front
 
 pub take-off-spec : {M : Type 1} → statement M
 take-off-spec =
@@ -104,10 +110,9 @@ take-off-spec =
     loop-holds
     mul-p
     element-copy-out-p
+    in-batch-requires
     mul-p-2
     element-set-from-p
-    in-batch-requires
-    one-if-requires
     add-kept
     add-i
     loop-less

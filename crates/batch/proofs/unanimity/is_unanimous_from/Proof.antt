@@ -14,7 +14,7 @@ use Rattle.batch.proofs.unanimity.is_unanimous_from.Statement.{statemen
 use Rattle.batch.proofs.unanimity.is_unanimous_from.Tie as tie
 
 abbrev Inv-loop : tie.InvT-loop
-Inv-loop group t first r n seen₀ size₀ same₀ i₀ seen size same i =
+Inv-loop k group t first r n seen₀ size₀ same₀ i₀ seen size same i =
     (i ≤ n)
     × (length seen ≡ 256)
     × (size ≤ i)
@@ -22,7 +22,7 @@ Inv-loop group t first r n seen₀ size₀ same₀ i₀ seen size same i =
     × (same && agree first seen (batchAt group t (drop i (waiting r))) ≡ agree first (replicate 256 false) (batchAt group t (waiting r)))
 
 abbrev μ-loop : tie.MeasureT-loop
-μ-loop group t first r n seen₀ size₀ same₀ i₀ seen size same i = n - i
+μ-loop k group t first r n seen₀ size₀ same₀ i₀ seen size same i = n - i
 
 pending-count-requires : tie.Need-pending-count-requires Inv-loop μ-loop
 pending-count-requires c κs = search needs
@@ -85,9 +85,6 @@ loop-again c =
           (agree-step (a .first) (a .group) (a .t) p rest (l .loop .seen) (omega arith) (l .loop .same) mine (rw mine refl) ∙ (rw next at (inv .4))),
     )
 
-cast-result : tie.Need-cast-result Inv-loop μ-loop
-cast-result c = search needs
-
 add-result : tie.Need-add-result Inv-loop μ-loop
 add-result c = search needs
 
@@ -99,7 +96,7 @@ returns c =
     let none = left-none (r .count) (r .pending) (l .loop .i) (omega (arith, l .before .pending-count .ensures .0)) in
     let same = sym (and-true (l .loop .same)) ∙ (rw none at (l .loop .inv .4)) in
     let size = sym (add-zero (l .loop .size)) ∙ (rw none at (l .loop .inv .3)) in
-    agree-unanimous (r .k) (batchAt (a .group) (a .t) (waiting r)) (rw (l .before .before .pre) at same) (rw size refl)
+    agree-unanimous (a .k) (batchAt (a .group) (a .t) (waiting r)) (rw (l .before .before .pre) at same) (rw size refl)
 
 pub is-unanimous-from-spec : {M : Type 1} → statement M
 is-unanimous-from-spec =
@@ -122,6 +119,5 @@ is-unanimous-from-spec =
     add-i
     loop-less
     loop-again
-    cast-result
     add-result
     returns)

@@ -12,8 +12,8 @@ use Rattle.delivery.proofs.delivery.deliver.Statement.{statement}
 use Rattle.delivery.proofs.delivery.deliver.Tie as tie
 
 -- the array has 64 elements
-long : (c : tie.Start) → length (c .args .r .pending) ≡ 64
-long c = sym (length-map (c .args .r .pending) _) ∙ c .good .0 .1 .1 .1 .1 .1 .1 .1 .1 .1 .0 .1 .0 .1
+long : (c : tie.Start) → length (c .args .r .queue .pending) ≡ 64
+long c = sym (length-map (c .args .r .queue .pending) _) ∙ c .good .0 .1 .1 .1 .1 .1 .1 .1 .1 .1 .0 .1 .1 .0 .1 .0 .1
 
 -- what is admitted is what the rules admit
 admitted : (c : tie.After-admit) →
@@ -22,8 +22,8 @@ admitted : (c : tie.After-admit) →
 unfolding admit
 admitted c =
     let s = c .before .before in
-    let r = s .args .r in
-    rw (c .admit .ensures, place-counted (r .count) (r .pending) (long s))
+    let q = s .args .r .queue in
+    rw (c .admit .ensures, place-counted (q .count) (q .pending) (long s))
 
 admit-requires : tie.Need-admit-requires
 admit-requires c κs = search needs

@@ -16,32 +16,35 @@ use Rattle.replica.proofs.Sends.{stepped-is, sends-as, sends-still}
 use Rattle.replica.proofs.handle.handle_batch.Statement.{statement}
 use Rattle.replica.proofs.handle.handle_batch.Tie as tie
 
-take-off-requires : tie.Need-take-off-requires
-take-off-requires c κs = search needs
-
 all-reads-requires : tie.Need-all-reads-requires
 all-reads-requires c κs = search needs
 
 send-replies-requires : tie.Need-send-replies-requires
 send-replies-requires c κs = search needs
 
+without-requires : tie.Need-without-requires
+without-requires c κs = search needs
+
 same-length : tie.Need-same-length
 same-length c = search needs
 
 returns : tie.Need-returns
 returns c =
-    let sent = c .before .before in
+    let sent = c .before .before .before in
     let reads = sent .before .before .before in
-    let start = reads .before .before .before in
+    let start = reads .before .before in
     let a = start .args in
     let s = stateOf (a .r) in
     let yes = sym (reads .all-reads .ensures) ∙ sent .before .before .if1 .taken in
-    let same = sym (length-map (batchAt (a .group) (a .t) (waiting (a .r))) (replyTo (s .store) (s .number))) in
+    let same = sym (length-map (batchAt (a .group) (a .t) (waiting (a .r .queue))) (replyTo (s .store) (s .number))) in
     let amount = sent .send-replies .ensures .0 ∙ ap (λ (n : ℕ). a .count + n) same in (
       sends-as (a .count) (a .output .now) (handled-reads (a .group) (a .t) s (start .pre .0) yes)
-          (stepped-is (reads .before .take-off .ensures) amount (sent .send-replies .ensures .1 .1)),
+          (stepped-is (c .without .ensures) amount (sent .send-replies .ensures .1 .1)),
       omega (arith, sent .send-replies .ensures .1 .0),
     )
+
+without-requires-2 : tie.Need-without-requires-2
+without-requires-2 c κs = search needs
 
 may-change-requires : tie.Need-may-change-requires
 may-change-requires c κs = search needs
@@ -49,13 +52,14 @@ may-change-requires c κs = search needs
 returns-2 : tie.Need-returns-2
 returns-2 c =
     let change = c .before in
-    let reads = change .before .before in
-    let start = reads .before .before .before in
+    let rest = change .before in
+    let reads = rest .before .before in
+    let start = reads .before .before in
     let a = start .args in
-    let no = sym (reads .all-reads .ensures) ∙ change .before .if1 .left in
+    let no = sym (reads .all-reads .ensures) ∙ rest .before .if1 .left in
     let may-not = sym (change .may-change .ensures) ∙ not-true _ (c .if2 .taken) in (
       sends-as (a .count) (a .output .now) (handled-still (a .group) (a .t) (stateOf (a .r)) (start .pre .0) no may-not)
-          (stepped-is (reads .before .take-off .ensures) refl refl ∙ sym (sends-still (a .count) (a .output .now) _)),
+          (stepped-is (rest .without2 .ensures) refl refl ∙ sym (sends-still (a .count) (a .output .now) _)),
       omega arith,
     )
 
@@ -73,15 +77,16 @@ returns-3 c =
     let first = c .before in
     let unanimous = first .before .before in
     let change = unanimous .before .before in
-    let reads = change .before .before in
-    let start = reads .before .before .before in
+    let rest = change .before in
+    let reads = rest .before .before in
+    let start = reads .before .before in
     let a = start .args in
-    let no = sym (reads .all-reads .ensures) ∙ change .before .if1 .left in
+    let no = sym (reads .all-reads .ensures) ∙ rest .before .if1 .left in
     let may = sym (change .may-change .ensures) ∙ not-false _ (unanimous .before .if2 .left) in
     let all = sym (unanimous .is-unanimous .ensures) ∙ first .before .if3 .taken in
     let state =
     c .performed .ensures
-    ∙ ap (λ (x : State). withStore (perform (first .first-of .result ∷ []) (x .store)) x) (reads .before .take-off .ensures) in (
+    ∙ ap (λ (x : State). withStore (perform (first .first-of .result ∷ []) (x .store)) x) (rest .without2 .ensures) in (
       sends-as (a .count) (a .output .now) (handled-write (a .group) (a .t) (stateOf (a .r)) (start .pre .0) no may all)
           (stepped-is (rw (first .first-of .ensures) at state) refl refl ∙ sym (sends-still (a .count) (a .output .now) _)),
       omega arith,
@@ -101,13 +106,14 @@ returns-4 c =
     let sent = c .before .before .before in
     let unanimous = sent .before .before .before in
     let change = unanimous .before .before in
-    let reads = change .before .before in
-    let start = reads .before .before .before in
+    let rest = change .before in
+    let reads = rest .before .before in
+    let start = reads .before .before in
     let a = start .args in
-    let no = sym (reads .all-reads .ensures) ∙ change .before .if1 .left in
+    let no = sym (reads .all-reads .ensures) ∙ rest .before .if1 .left in
     let may = sym (change .may-change .ensures) ∙ not-false _ (unanimous .before .if2 .left) in
     let not-all = sym (unanimous .is-unanimous .ensures) ∙ sent .before .before .if3 .left in
-    let state = c .failing .ensures ∙ ap (λ (x : State). withStore (fail (x .store)) x) (reads .before .take-off .ensures) in (
+    let state = c .failing .ensures ∙ ap (λ (x : State). withStore (fail (x .store)) x) (rest .without2 .ensures) in (
       sends-as (a .count) (a .output .now) (handled-fails (a .group) (a .t) (stateOf (a .r)) (start .pre .0) no may not-all)
           (stepped-is state (sent .send-halts .ensures .0) (sent .send-halts .ensures .1 .1)),
       omega (arith, sent .send-halts .ensures .1 .0),
@@ -117,11 +123,12 @@ pub handle-batch-spec : {M : Type 1} → statement M
 handle-batch-spec =
     tie.close
     (tie.spec
-    take-off-requires
     all-reads-requires
     send-replies-requires
+    without-requires
     same-length
     returns
+    without-requires-2
     may-change-requires
     returns-2
     is-unanimous-requires

@@ -18,16 +18,16 @@ use Rattle.replica.proofs.output.send_replies.Statement.{statement}
 use Rattle.replica.proofs.output.send_replies.Tie as tie
 
 abbrev Inv-loop : tie.InvT-loop
-Inv-loop group t output₀ count r n next₀ i₀ output next i =
+Inv-loop group t output₀ count r q n next₀ i₀ output next i =
     (i ≤ n)
     × (next ≤ count + i)
     × (length output ≡ length output₀)
-    × (next + length (batchAt group t (drop i (waiting r))) ≡ count + length (batchAt group t (waiting r)))
-    × (writeAt (r .k) (r .groups) next (map (replyTo (stateOf r .store) (r .number)) (batchAt group t (drop i (waiting r)))) output
-    ≡ writeAt (r .k) (r .groups) count (map (replyTo (stateOf r .store) (r .number)) (batchAt group t (waiting r))) output₀)
+    × (next + length (batchAt group t (drop i (waiting q))) ≡ count + length (batchAt group t (waiting q)))
+    × (writeAt (r .k) (r .groups) next (map (replyTo (stateOf r .store) (r .number)) (batchAt group t (drop i (waiting q)))) output
+    ≡ writeAt (r .k) (r .groups) count (map (replyTo (stateOf r .store) (r .number)) (batchAt group t (waiting q))) output₀)
 
 abbrev μ-loop : tie.MeasureT-loop
-μ-loop group t output₀ count r n next₀ i₀ output next i = n - i
+μ-loop group t output₀ count r q n next₀ i₀ output next i = n - i
 
 pending-count-requires : tie.Need-pending-count-requires Inv-loop μ-loop
 pending-count-requires c κs = search needs
@@ -62,12 +62,13 @@ loop-less c = search needs
 loop-again : tie.Need-loop-again Inv-loop μ-loop
 loop-again c =
     let l = c .before .before .before .before in
-    let a = l .before .before .before .args in
+    let a = l .before .before .before .before .args in
     let r = a .t1 in
+    let q = r .queue in
     let i = l .loop .i in
     let inv = l .loop .inv in
-    let p = getD (r .pending) i free in
-    let next = left-next (r .count) (r .pending) i free (omega (arith, l .before .pending-count .ensures .0)) in
+    let p = getD (q .pending) i free in
+    let next = left-next (q .count) (q .pending) i free (omega (arith, l .before .pending-count .ensures .0)) in
     let mine = c .before .in-batch .ensures in
     let reply = replyTo (stateOf r .store) (r .number) in
     ⊎-elim
@@ -98,8 +99,8 @@ same-length c = c .before .loop .inv .2
 returns : tie.Need-returns Inv-loop μ-loop
 returns c =
     let l = c .before in
-    let r = l .before .before .before .args .t1 in
-    let none = left-none (r .count) (r .pending) (l .loop .i) (omega (arith, l .before .pending-count .ensures .0)) in (
+    let r = l .before .before .before .before .args .t1 in
+    let none = left-none (r .queue .count) (r .queue .pending) (l .loop .i) (omega (arith, l .before .pending-count .ensures .0)) in (
       sym (add-zero (l .loop .next)) ∙ (rw none at (l .loop .inv .3)),
       (omega arith, sym (write-none (r .k) (r .groups) (l .loop .next) (l .loop .output)) ∙ (rw none at (l .loop .inv .4))),
     )

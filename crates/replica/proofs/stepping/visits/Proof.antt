@@ -18,19 +18,19 @@ use Rattle.replica.proofs.stepping.visits.Tie as tie
 abbrev Inv-loop : tie.InvT-loop
 Inv-loop at output₀ n replica₀ count₀ group₀ output replica count group =
     (group ≤ n)
-    × (count + 256 * length (waiting replica) ≤ 16384)
+    × (count + 256 * length (waiting (replica .queue)) ≤ 16384)
     × (length output ≡ length output₀)
     × (n ≤ group → reached (record { replica = replica; count = count }) output ≡ sends 0 output₀ (visits group at (stateOf replica₀)))
     × (sends count output (whole (group + 1) at (stateOf replica)) ≡ sends 0 output₀ (visits (group + 1) at (stateOf replica₀)))
 
 abbrev μ-loop : tie.MeasureT-loop
-μ-loop at output₀ n replica₀ count₀ group₀ output replica count group = n - group + length (waiting replica)
+μ-loop at output₀ n replica₀ count₀ group₀ output replica count group = n - group + length (waiting (replica .queue))
 
 -- no more than 64 requests are pending
-enough : (c : tie.Start Inv-loop μ-loop) → length (waiting (c .args .r)) ≤ 64
+enough : (c : tie.Start Inv-loop μ-loop) → length (waiting (c .args .r .queue)) ≤ 64
 enough c =
-    let l = c .args .r .pending in
-    let long : length l ≡ 64 = sym (length-map l _) ∙ c .good .0 .1 .1 .1 .1 .1 .1 .1 .1 .1 .0 .1 .0 .1 in
+    let l = c .args .r .queue .pending in
+    let long : length l ≡ 64 = sym (length-map l _) ∙ c .good .0 .1 .1 .1 .1 .1 .1 .1 .1 .1 .0 .1 .1 .0 .1 .0 .1 in
     rw length-take (omega arith)
 
 -- a head that is found is the group's, and its batch is stable
@@ -95,7 +95,7 @@ handle-batch-requires c κs = (late (c .before .before) .0, omega arith)
 
 -- a request or more is taken off
 fewer : (c : tie.After-handle-batch Inv-loop μ-loop) →
-    length (waiting (c .handle-batch .result .replica)) < length (waiting (c .before .before .before .before .before .before .before .loop .replica))
+    length (waiting (c .handle-batch .result .replica .queue)) < length (waiting (c .before .before .before .before .before .before .before .loop .replica .queue))
 fewer c =
     let found = c .before .before .before in
     let l = found .before .before .before .before in

@@ -2,11 +2,11 @@
 use mathlib.Core.Path.{_≡_, sym, _∙_}
 use native.Mathlib.Omega.{arith}
 use lib.ListN.{length, length-take, length-map}
-use Rattle.batch.proofs.state.pending_count.Statement.{statement}
-use Rattle.batch.proofs.state.pending_count.Tie as tie
+use Rattle.batch.proofs.queue.pending_count.Statement.{statement}
+use Rattle.batch.proofs.queue.pending_count.Tie as tie
 
-length-is : (c : tie.Start) → length (c .args .r .pending) ≡ 64
-length-is c = sym (length-map (c .args .r .pending) _) ∙ c .good .0 .1 .1 .1 .1 .1 .1 .1 .1 .1 .0 .1 .0 .1
+length-is : (c : tie.Start) → length (c .args .q .pending) ≡ 64
+length-is c = sym (length-map (c .args .q .pending) _) ∙ c .good .0 .1 .1 .0 .1 .0 .1
 
 returns : tie.Need-returns
 returns c = let s = c .before .before in (rw (length-take, length-is s) (omega arith), omega arith)
