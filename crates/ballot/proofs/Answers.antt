@@ -6,7 +6,7 @@ use mathlib.Core.Bool.{Bool, true, false, _&&_, and-false}
 use mathlib.Core.List.{List, [], _∷_}
 use native.Mathlib.Omega.{arith}
 use lib.Dec.{eqb, leb}
-use lib.ListN.{length, getD}
+use lib.ListN.{length}
 use borrow.Author.Tests.{eqb-true, eqb-false, leb-true}
 use Rattle.question.specs.Question.{_else_, Answer, given, refused, Worked, worked, ask, next, within, unitQuestions}
 use Rattle.question.proofs.Questions.{ask-next, both, within-true}
@@ -17,7 +17,8 @@ use Rattle.rules.specs.Vote.{passes, counts, halts, says, support, elect, askLi
 use Rattle.rules.specs.declared.Query.{Query}
 use Rattle.laws.proofs.Ballot.{says-in, elect-wins, elect-refused}
 use Rattle.laws.proofs.Lists.{case, true-not-false, some-in, tally-hit}
-use Rattle.ballot.specs.Ballot.{ballotOf, gave, supportIn, electIn, haltCountIn, askBallot}
+use Rattle.ballot.specs.Sets.{has}
+use Rattle.ballot.specs.Ballot.{ballotOf, valueOf, gave, supportIn, electIn, haltCountIn, askBallot}
 use Rattle.ballot.specs.declared.ballot.Ballot.{Ballot}
 use Rattle.ballot.proofs.Heard.{ballot-short, ballot-gave, ballot-halted}
 use Rattle.ballot.proofs.Numbers.{tally-past, tally-same}
@@ -58,9 +59,9 @@ halts-replica k n group process m e =
 module _ (k : ℕ) (b : Ballot) where
   -- a replica whose value k + 1 gave
   abbrev wins : ℕ → Bool
-  wins i = getD (b .heard) i false && leb (k + 1) (supportIn b (getD (b .values) i 0))
+  wins i = has (b .heard) i && leb (k + 1) (supportIn b (valueOf b i))
 
-  pub elect-hit : (i : ℕ) → 0 < i → wins i ≡ true → electIn k b i ≡ given (getD (b .values) i 0)
+  pub elect-hit : (i : ℕ) → 0 < i → wins i ≡ true → electIn k b i ≡ given (valueOf b i)
   unfolding electIn
   elect-hit zero h e = absurd (omega arith)
   elect-hit (suc i) h e = rw e
@@ -81,7 +82,7 @@ module _ (k : ℕ) (b : Ballot) where
   unfolding electIn
   elected zero = inr (refl, λ i lo hi. absurd (omega arith))
   elected (suc n) = case (wins (suc n))
-      (λ e. inl (getD (b .values) (suc n) 0, rw e, both (getD (b .heard) (suc n) false) (leb (k + 1) (supportIn b (getD (b .values) (suc n) 0))) e .1))
+      (λ e. inl (valueOf b (suc n), rw e, both (has (b .heard) (suc n)) (leb (k + 1) (supportIn b (valueOf b (suc n)))) e .1))
       (λ e. ⊎-elim
       (λ l. inl (l .0, rw e (l .1), l .2))
       (λ r. inr (
@@ -105,7 +106,7 @@ module _ (k n : ℕ) (q : Query) (list : List Message) where
     ballot-support : (v : ℕ) → supportIn ballot v ≡ support k (counts k n q) list v
     unfolding supportIn
     ballot-support v =
-        tally-same (gave ballot v) (λ i. says (counts k n q) i v list) 7 (λ i lo hi. ballot-gave k n q list i (omega arith) v)
+        tally-same (gave ballot v) (λ i. says (counts k n q) i v list) 7 (λ i lo hi. ballot-gave k n q list i lo hi v)
         ∙ tally-past (λ i. says (counts k n q) i v list) (2 * k + 1) 7 (omega arith) (λ i h. case (says (counts k n q) i v list)
         (λ e. let r = says-in (counts k n q) i v list e in absurd (omega (arith, counts-replica k n q (r .0) (r .2), r .3)))
         (λ e. e))
@@ -113,8 +114,8 @@ module _ (k n : ℕ) (q : Query) (list : List Message) where
     ballot-halts : haltCountIn ballot ≡ tally (λ i. some (λ m. halting m && eqb (m .replica) i) list) (2 * k + 1)
     unfolding haltCountIn
     ballot-halts =
-        tally-same (λ i. getD (ballot .halted) i false) (λ i. some (λ m. halting m && eqb (m .replica) i) list) 7
-        (λ i lo hi. ballot-halted k n q list i (omega arith))
+        tally-same (has (ballot .halted)) (λ i. some (λ m. halting m && eqb (m .replica) i) list) 7
+        (λ i lo hi. ballot-halted k n q list i lo hi)
         ∙ tally-past (λ i. some (λ m. halting m && eqb (m .replica) i) list) (2 * k + 1) 7 (omega arith) (λ i h.
         case (some (λ m. halting m && eqb (m .replica) i) list)
         (λ e.
@@ -128,8 +129,8 @@ module _ (k n : ℕ) (q : Query) (list : List Message) where
     winner v e =
         let a = tally-hit (λ i. says (counts k n q) i v list) (2 * k + 1) (omega (arith, leb-true (k + 1) (support k (counts k n q) list v) e)) in
         let small-i : a .0 ≤ 7 = omega (arith, a .2) in
-        let g = both (getD (ballot .heard) (a .0) false) (eqb (getD (ballot .values) (a .0) 0) v) (ballot-gave k n q list (a .0) (omega arith) v ∙ a .3) in
-        (a .0, a .1, small-i, rw (g .0, eqb-true (getD (ballot .values) (a .0) 0) v (g .1), ballot-support v, e))
+        let g = both (has (ballot .heard) (a .0)) (eqb (valueOf ballot (a .0)) v) (ballot-gave k n q list (a .0) (a .1) small-i v ∙ a .3) in
+        (a .0, a .1, small-i, rw (g .0, eqb-true (valueOf ballot (a .0)) v (g .1), ballot-support v, e))
 
     ballot-elects : electIn k ballot 7 ≡ elect k (counts k n q) list list
     ballot-elects = ⊎-elim

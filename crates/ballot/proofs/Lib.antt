@@ -1,3 +1,4 @@
 pub mod Numbers
+pub mod Bits
 pub mod Heard
 pub mod Answers

@@ -1,15 +1,17 @@
 -- The ballot: what is noted of each replica, message after message, and what it says. That this is what crates/rules
 -- says of the list is proved in proofs/Answers.antt.
 use Prim.Native.Nat.{ℕ, zero, suc, _+_}
-use mathlib.Core.Bool.{Bool, true, false, cond, _&&_, _||_}
+use mathlib.Core.Bool.{Bool, cond, _&&_}
 use mathlib.Core.List.{List, [], _∷_}
 use lib.Dec.{eqb, leb}
 use lib.ListN.{length, getD, set, replicate}
 use Rattle.question.specs.Question.{_else_, Answer, given, refused, ask, unitQuestions}
+use Rattle.record.specs.Record.{reply, halt}
 use Rattle.record.specs.declared.message.Message.{Message}
 use Rattle.rules.specs.Lists.{tally}
 use Rattle.rules.specs.Vote.{counts, halts}
 use Rattle.rules.specs.declared.Query.{Query}
+use Rattle.ballot.specs.Sets.{isReplica, has, lacks, with}
 use Rattle.ballot.specs.declared.ballot.Ballot.{Ballot}
 
 -- ── by their fields ──
@@ -33,18 +35,28 @@ haltQuery group process = record { group = group; process = process; variable = 
 
 -- the ballot of a list of the given length, with nothing heard
 unfoldable pub newBallot : ℕ → Ballot
-newBallot length = record { short = leb length 64; heard = replicate 8 false; values = replicate 8 0; halted = replicate 8 false }
+newBallot length = record { values = replicate 8 0; heard = 0; halted = 0; short = leb length 64 }
 
--- a reply of a replica with a value; its first is noted
+-- a reply of a replica with a value; its first is noted. A number that no replica has changes nothing
 unfoldable pub hearReply : Ballot → ℕ → ℕ → Ballot
 hearReply b replica value =
-    cond (leb 8 replica || getD (b .heard) replica false) b
-    (record { short = b .short; heard = set (b .heard) replica true; values = set (b .values) replica value; halted = b .halted })
+    cond (lacks (b .heard) replica)
+    (record { values = set (b .values) replica value; heard = with (b .heard) replica; halted = b .halted; short = b .short }) b
 
 -- a halt of a replica
 unfoldable pub hearHalt : Ballot → ℕ → Ballot
 hearHalt b replica =
-    cond (leb 8 replica) b (record { short = b .short; heard = b .heard; values = b .values; halted = set (b .halted) replica true })
+    cond (isReplica replica) (record { values = b .values; heard = b .heard; halted = with (b .halted) replica; short = b .short }) b
+
+-- the reply asked for: it matches all four
+abbrev pub answers : Query → Message → Bool
+answers q m =
+    eqb (m .kind) reply
+    && eqb (m .group) (q .group) && eqb (m .process) (q .process) && eqb (m .variable) (q .variable) && eqb (m .timestamp .0) (q .timestamp .0)
+
+-- a halt that matches group and process
+abbrev pub tellsHalt : Query → Message → Bool
+tellsHalt q m = eqb (m .kind) halt && eqb (m .group) (q .group) && eqb (m .process) (q .process)
 
 -- a message: what counts of it is noted
 unfoldable pub hear : ℕ → ℕ → Query → Ballot → Message → Ballot
@@ -63,9 +75,13 @@ ballotOf k n q list = hearAll k n q (newBallot (length list)) list
 
 -- ── what a ballot says ──
 
+-- the value of a replica that was heard
+abbrev pub valueOf : Ballot → ℕ → ℕ
+valueOf b replica = getD (b .values) replica 0
+
 -- whether a replica was heard to give the value
 abbrev pub gave : Ballot → ℕ → ℕ → Bool
-gave b value replica = getD (b .heard) replica false && eqb (getD (b .values) replica 0) value
+gave b value replica = has (b .heard) replica && eqb (valueOf b replica) value
 
 -- how many replicas gave the value
 unfoldable pub supportIn : Ballot → ℕ → ℕ
@@ -75,12 +91,11 @@ supportIn b value = tally (gave b value) 7
 unfoldable pub electIn : ℕ → Ballot → ℕ → Answer ℕ
 electIn k b zero = refused 17
 electIn k b (suc i) =
-    cond (getD (b .heard) (suc i) false && leb (k + 1) (supportIn b (getD (b .values) (suc i) 0)))
-    (given (getD (b .values) (suc i) 0)) (electIn k b i)
+    cond (has (b .heard) (suc i) && leb (k + 1) (supportIn b (valueOf b (suc i)))) (given (valueOf b (suc i))) (electIn k b i)
 
 -- how many replicas halted
 unfoldable pub haltCountIn : Ballot → ℕ
-haltCountIn b = tally (λ replica. getD (b .halted) replica false) 7
+haltCountIn b = tally (has (b .halted)) 7
 
 -- questions 1, 2 and 16
 abbrev pub askBallot : {A : Type 0} → ℕ → ℕ → Ballot → Answer A → Answer A

@@ -1,7 +1,11 @@
-// A ballot: what was heard so far of each replica, at the index that is its number.
+// A ballot: what was heard so far of each replica.
 ghost use mathlib.Core.Path.{_≡_};
-ghost use Rattle.rules.specs.Vote.{counts, halts};
-ghost use Rattle.ballot.specs.Ballot.{newBallot, hearReply, hearHalt, hear, messageOf};
+ghost use mathlib.Core.Bool.{true};
+ghost use Rattle.ballot.specs.Sets.{lacks};
+ghost use Rattle.ballot.specs.Ballot.{newBallot, hearReply, hearHalt, answers, tellsHalt, hear, messageOf};
+use crate::sets::is_replica;
+use crate::sets::lacks;
+use crate::sets::with;
 use record::Message;
 use record::Timestamp;
 use rules::Query;
@@ -11,12 +15,12 @@ const REPLY: u8 = 3;
 const HALT: u8 = 4;
 
 pub struct Ballot {
-    // The value of its first counting reply, and whose came. The widest stand first: copies of a
-    // ballot with gaps in it wait for each other, and a vote takes twice as long.
+    // The value of each replica's first counting reply, at the index that is its number. Copies of
+    // 8 values are two loads that do not overlap; those of 7 overlap, and wait for each other.
     pub values: [u32; 8],
-    pub heard: [bool; 8],
-    // Whose counting halt came.
-    pub halted: [bool; 8],
+    // Sets of replicas (src/sets.rt): whose counting reply came, and whose counting halt.
+    pub heard: u8,
+    pub halted: u8,
     // Question 16: the list has at most 64 messages.
     pub short: bool,
 }
@@ -26,47 +30,40 @@ pub fn new_ballot(length: usize) -> Ballot
 {
     Ballot {
         values: [0u32; 8],
-        heard: [false; 8],
-        halted: [false; 8],
+        heard: 0,
+        halted: 0,
         short: length <= 64,
     }
 }
 
-// A reply that counts: it passes, and matches all four.
-fn counts(k: u8, n: u8, q: Query, m: Message) -> bool
-    ensures { λ r. ⌜ r ≡ counts k n q m ⌝ }
+// The reply asked for: it matches all four.
+fn answers(q: Query, m: Message) -> bool
+    ensures { λ r. ⌜ r ≡ answers q m ⌝ }
 {
     let sent = m.timestamp;
     let asked = q.timestamp;
-    let passes = record::passes(k, n, m);
-    passes
-        & (m.kind == REPLY)
+    (m.kind == REPLY)
         & (m.group == q.group)
         & (m.process == q.process)
         & (m.variable == q.variable)
         & (sent.0 == asked.0)
 }
 
-// A halt that counts: it passes, and matches group and process.
-fn halts(k: u8, n: u8, group: u8, process: u8, m: Message) -> bool
-    ensures { λ r. ⌜ r ≡ halts k n group process m ⌝ }
+// A halt that matches group and process.
+fn tells_halt(q: Query, m: Message) -> bool
+    ensures { λ r. ⌜ r ≡ tellsHalt q m ⌝ }
 {
-    record::passes(k, n, m) & (m.kind == HALT) & (m.group == group) & (m.process == process)
+    (m.kind == HALT) & (m.group == q.group) & (m.process == q.process)
 }
 
 // The first reply of a replica is noted.
 fn hear_reply(b: Ballot, replica: u8, value: u32) -> Ballot
+    requires { ⌜ lacks (b .heard) replica ≡ true ⌝ }
     ensures { λ r. ⌜ r ≡ hearReply b replica value ⌝ }
 {
     let i = replica as usize;
-    if 8 <= i {
-        return b;
-    }
-    if b.heard[i] {
-        return b;
-    }
     let mut next = b;
-    next.heard[i] = true;
+    next.heard = with(b.heard, i);
     next.values[i] = value;
     next
 }
@@ -74,13 +71,12 @@ fn hear_reply(b: Ballot, replica: u8, value: u32) -> Ballot
 fn hear_halt(b: Ballot, replica: u8) -> Ballot
     ensures { λ r. ⌜ r ≡ hearHalt b replica ⌝ }
 {
-    let i = replica as usize;
-    if 8 <= i {
-        return b;
+    if is_replica(replica) {
+        let mut next = b;
+        next.halted = with(b.halted, replica as usize);
+        return next;
     }
-    let mut next = b;
-    next.halted[i] = true;
-    next
+    b
 }
 
 // One message, handed over by its fields.
@@ -108,10 +104,12 @@ pub fn hear(
         timestamp: Timestamp(timestamp),
         value,
     };
-    if counts(k, n, q, m) {
+    let passes = record::passes(k, n, m);
+    // What changes nothing goes to the end, where the ballot is not copied.
+    if passes & answers(q, m) & lacks(b.heard, replica) {
         return hear_reply(b, replica, value);
     }
-    if halts(k, n, q.group, q.process, m) {
+    if passes & tells_halt(q, m) {
         return hear_halt(b, replica);
     }
     b

@@ -5,6 +5,7 @@ ghost use Rattle.question.specs.Question.{given, worked, outcome};
 ghost use Rattle.ballot.specs.Answers.{voteAnswer, haltAnswer};
 ghost use Rattle.ballot.specs.Ballot.{supportIn, electIn, haltCountIn, askBallot};
 use crate::ballot::Ballot;
+use crate::sets::has;
 use question::Outcome;
 use question::ask;
 use question::check_unit;
@@ -34,7 +35,7 @@ fn support(b: Ballot, value: u32) -> usize
     let mut i: usize = 0;
     while i < 7 {
         i += 1;
-        count += one_if(b.heard[i] & (b.values[i] == value));
+        count += one_if(has(b.heard, i) & (b.values[i] == value));
     }
     count
 }
@@ -47,7 +48,7 @@ fn elect(k: u8, b: Ballot) -> VoteAnswer
     let mut i: usize = 7;
     while 0 < i {
         let value = b.values[i];
-        if b.heard[i] & (enough <= support(b, value)) {
+        if has(b.heard, i) & (enough <= support(b, value)) {
             return VoteAnswer::Value(value);
         }
         i -= 1;
@@ -55,17 +56,11 @@ fn elect(k: u8, b: Ballot) -> VoteAnswer
     VoteAnswer::Refused(17)
 }
 
-// How many replicas halted.
+// How many replicas halted. The highest bit is no replica's.
 fn halt_count(b: Ballot) -> usize
     ensures { λ r. ⌜ r ≡ haltCountIn b ⌝ }
 {
-    let mut count: usize = 0;
-    let mut i: usize = 0;
-    while i < 7 {
-        i += 1;
-        count += one_if(b.halted[i]);
-    }
-    count
+    u8::count_ones(b.halted & 127) as usize
 }
 
 // Questions 1, 2 and 16.

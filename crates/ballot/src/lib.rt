@@ -2,6 +2,7 @@
 // count are a ballot over a list; crates/vote walks the list.
 mod ballot;
 mod count;
+mod sets;
 
 pub use ballot::Ballot;
 pub use ballot::hear;

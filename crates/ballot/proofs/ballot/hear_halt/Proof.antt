@@ -1,19 +1,39 @@
-use Rattle.ballot.specs.Ballot.{hearHalt}
-use borrow.Author.Tests.{le-leb, lt-leb}
+use Prim.Native.Nat.{ℕ}
+use mathlib.Core.Path.{_≡_, sym, _∙_}
+use mathlib.Core.Bool.{true, false}
 use borrow.Author.Needs.{needs}
+use Rattle.question.proofs.Questions.{within-true}
+use Rattle.ballot.specs.Sets.{isReplica, with}
+use Rattle.ballot.specs.Ballot.{hearHalt}
+use Rattle.ballot.specs.declared.ballot.Ballot.{Ballot}
 use Rattle.ballot.proofs.ballot.hear_halt.Statement.{statement}
 use Rattle.ballot.proofs.ballot.hear_halt.Tie as tie
 
-returns : tie.Need-returns
-unfolding hearHalt
-returns c = rw (le-leb _ _ (c .if1 .taken))
+-- the two cases of the definition
+module _ (b : Ballot) (replica : ℕ) where
+  is-noted : isReplica replica ≡ true → (halted : ℕ) → halted ≡ with (b .halted) replica
+      → record { values = b .values; heard = b .heard; halted = halted; short = b .short } ≡ hearHalt b replica
+  unfolding hearHalt
+  is-noted e halted f = rw (e, f)
 
-element-write-next : tie.Need-element-write-next
-element-write-next c = search needs
+  no-replica : isReplica replica ≡ false → b ≡ hearHalt b replica
+  unfolding hearHalt
+  no-replica e = rw e
+
+is-replica-requires : tie.Need-is-replica-requires
+is-replica-requires c κs = search needs
+
+numbered : (c : tie.Then1) → isReplica (c .before .before .args .replica) ≡ true
+numbered c = sym (c .before .is-replica .ensures) ∙ c .if1 .taken
+
+with-requires : tie.Need-with-requires
+with-requires c κs = within-true 1 7 _ (numbered c)
+
+returns : tie.Need-returns
+returns c = is-noted _ _ (numbered (c .before)) _ (c .with .ensures)
 
 returns-2 : tie.Need-returns-2
-unfolding hearHalt
-returns-2 c = rw (lt-leb _ _ (c .if1 .left))
+returns-2 c = no-replica _ _ (sym (c .before .is-replica .ensures) ∙ c .if1 .left)
 
 pub hear-halt-spec : {M : Type 1} → statement M
-hear-halt-spec = tie.close (tie.spec returns element-write-next returns-2)
+hear-halt-spec = tie.close (tie.spec is-replica-requires with-requires returns returns-2)

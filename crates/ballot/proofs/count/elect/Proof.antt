@@ -27,8 +27,8 @@ mul-value c = search needs
 element-copy-out-value : tie.Need-element-copy-out-value Inv-loop μ-loop
 element-copy-out-value c = search needs
 
-element-copy-out-if1 : tie.Need-element-copy-out-if1 Inv-loop μ-loop
-element-copy-out-if1 c = search needs
+has-requires : tie.Need-has-requires Inv-loop μ-loop
+has-requires c κs = search needs
 
 support-requires : tie.Need-support-requires Inv-loop μ-loop
 support-requires c κs = search needs
@@ -36,7 +36,8 @@ support-requires c κs = search needs
 returns : tie.Need-returns Inv-loop μ-loop
 returns c =
     let b = c .before .before .before .before .before in
-    sym (elect-hit (b .before .args .k) (b .before .args .t2) (b .loop .i) (omega arith) (rw (c .before .support .ensures) at (c .if1 .taken))) ∙ b .loop .inv .1
+    let wins = rw (c .before .support .ensures, c .before .before .has .ensures) at (c .if1 .taken) in
+    sym (elect-hit (b .before .args .k) (b .before .args .t2) (b .loop .i) (omega arith) wins) ∙ b .loop .inv .1
 
 sub-i : tie.Need-sub-i Inv-loop μ-loop
 sub-i c = search needs
@@ -47,7 +48,8 @@ loop-less c = search needs
 loop-again : tie.Need-loop-again Inv-loop μ-loop
 loop-again c =
     let b = c .before .before .before .before .before in
-    (search needs, sym (elect-miss (b .before .args .k) (b .before .args .t2) (b .loop .i) (omega arith) (rw (c .before .support .ensures) at (c .if1 .left))) ∙ b .loop .inv .1)
+    let loses = rw (c .before .support .ensures, c .before .before .has .ensures) at (c .if1 .left) in
+    (search needs, sym (elect-miss (b .before .args .k) (b .before .args .t2) (b .loop .i) (omega arith) loses) ∙ b .loop .inv .1)
 
 returns-2 : tie.Need-returns-2 Inv-loop μ-loop
 returns-2 c =
@@ -64,7 +66,7 @@ elect-spec =
     loop-holds
     mul-value
     element-copy-out-value
-    element-copy-out-if1
+    has-requires
     support-requires
     returns
     sub-i

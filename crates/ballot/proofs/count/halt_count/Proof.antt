@@ -1,58 +1,14 @@
--- The loop's invariant: the count is the tally of the first i replicas.
-use mathlib.Core.Bool.{false}
-use lib.ListN.{getD}
-use Rattle.rules.specs.Lists.{tally}
-use Prim.Native.Nat.{_≤_, _-_}
-use mathlib.Core.Path.{_≡_}
-use native.Mathlib.Omega.{arith}
 use Rattle.ballot.specs.Ballot.{haltCountIn}
-use Rattle.ballot.proofs.Numbers.{counted, counted-bound, counted-all}
-use borrow.Author.Needs.{needs}
+use Rattle.ballot.proofs.Bits.{ones-masked, ones-small}
 use Rattle.ballot.proofs.count.halt_count.Statement.{statement}
 use Rattle.ballot.proofs.count.halt_count.Tie as tie
 
-abbrev Inv-loop : tie.InvT-loop
-Inv-loop b count₀ i₀ count i = (i ≤ 7) × (count ≡ tally (λ replica. getD (b .halted) replica false) i)
+cast-result : tie.Need-cast-result
+cast-result c = record { fits = ones-small (c .before .args .b .halted) }
 
-abbrev μ-loop : tie.MeasureT-loop
-μ-loop b count₀ i₀ count i = 7 - i
-
-loop-holds : tie.Need-loop-holds Inv-loop μ-loop
-loop-holds c = search needs
-
-add-i : tie.Need-add-i Inv-loop μ-loop
-add-i c = search needs
-
-element-copy-out-one-if : tie.Need-element-copy-out-one-if Inv-loop μ-loop
-element-copy-out-one-if c = search needs
-
-one-if-requires : tie.Need-one-if-requires Inv-loop μ-loop
-one-if-requires c κs = search needs
-
-add-count : tie.Need-add-count Inv-loop μ-loop
-add-count c = let b = c .before .before .before in omega (arith, counted-bound _ (b .loop .i) _ _ (b .loop .inv .1) (c .one-if .ensures))
-
-loop-less : tie.Need-loop-less Inv-loop μ-loop
-loop-less c = search needs
-
-loop-again : tie.Need-loop-again Inv-loop μ-loop
-loop-again c = let b = c .before .before .before in (search needs, counted _ (b .loop .i) _ _ (b .loop .inv .1) (c .one-if .ensures))
-
-returns : tie.Need-returns Inv-loop μ-loop
+returns : tie.Need-returns
 unfolding haltCountIn
-returns c = let b = c .before in counted-all _ (b .loop .i) 7 _ (b .loop .inv .0) (omega arith) (b .loop .inv .1)
+returns c = ones-masked (c .before .args .b .halted)
 
 pub halt-count-spec : {M : Type 1} → statement M
-halt-count-spec =
-    tie.close
-    (tie.spec
-    Inv-loop
-    μ-loop
-    loop-holds
-    add-i
-    element-copy-out-one-if
-    one-if-requires
-    add-count
-    loop-less
-    loop-again
-    returns)
+halt-count-spec = tie.close (tie.spec cast-result returns)

@@ -21,26 +21,30 @@ loop-holds c = search needs
 add-i : tie.Need-add-i Inv-loop μ-loop
 add-i c = search needs
 
-element-copy-out-one-if : tie.Need-element-copy-out-one-if Inv-loop μ-loop
-element-copy-out-one-if c = search needs
+has-requires : tie.Need-has-requires Inv-loop μ-loop
+has-requires c κs = search needs
 
 mul-one-if : tie.Need-mul-one-if Inv-loop μ-loop
 mul-one-if c = search needs
 
-element-copy-out-one-if-2 : tie.Need-element-copy-out-one-if-2 Inv-loop μ-loop
-element-copy-out-one-if-2 c = search needs
+element-copy-out-one-if : tie.Need-element-copy-out-one-if Inv-loop μ-loop
+element-copy-out-one-if c = search needs
 
 one-if-requires : tie.Need-one-if-requires Inv-loop μ-loop
 one-if-requires c κs = search needs
 
 add-count : tie.Need-add-count Inv-loop μ-loop
-add-count c = let b = c .before .before .before .before in omega (arith, counted-bound _ (b .loop .i) _ _ (b .loop .inv .1) (c .one-if .ensures))
+add-count c =
+    let b = c .before .before .before .before in
+    omega (arith, counted-bound _ (b .loop .i) _ _ (b .loop .inv .1) (rw (c .before .before .has .ensures) at (c .one-if .ensures)))
 
 loop-less : tie.Need-loop-less Inv-loop μ-loop
 loop-less c = search needs
 
 loop-again : tie.Need-loop-again Inv-loop μ-loop
-loop-again c = let b = c .before .before .before .before in (search needs, counted _ (b .loop .i) _ _ (b .loop .inv .1) (c .one-if .ensures))
+loop-again c =
+    let b = c .before .before .before .before in
+    (search needs, counted _ (b .loop .i) _ _ (b .loop .inv .1) (rw (c .before .before .has .ensures) at (c .one-if .ensures)))
 
 returns : tie.Need-returns Inv-loop μ-loop
 unfolding supportIn
@@ -54,9 +58,9 @@ support-spec =
     μ-loop
     loop-holds
     add-i
-    element-copy-out-one-if
+    has-requires
     mul-one-if
-    element-copy-out-one-if-2
+    element-copy-out-one-if
     one-if-requires
     add-count
     loop-less
