@@ -1,13 +1,12 @@
 // Delivery of a request.
 ghost use mathlib.Core.Path.{_≡_};
 ghost use Prim.Native.Nat.{ℕ, _<_};
-ghost use mathlib.Core.List.{[], _∷_, _++_};
+ghost use mathlib.Core.List.{[], _∷_};
 ghost use lib.Dec.{ltb};
 ghost use Rattle.question.specs.Question.{_else_, given, refused, ask, bind, next, after, verdict, outcome};
 ghost use Rattle.record.specs.Record.{requestAnswer, readRequest};
 ghost use Rattle.rules.specs.Replica.{timeQuestions, arrive, deliver};
-ghost use Rattle.batch.specs.State.{waiting, stateOf};
-use batch::Queue;
+ghost use Rattle.batch.specs.State.{stateOf};
 use batch::Replica;
 use question::Outcome;
 use question::ask;
@@ -50,29 +49,20 @@ fn refuse_later(read: RequestRead, number: u8) -> RequestRead
     }
 }
 
-// The queue with one more pending request, behind the others.
-fn push(q: Queue, p: Pending) -> Queue
-    requires { ⌜ q .count < 64 ⌝ }
-    ensures { λ s. ⌜ waiting s ≡ waiting q ++ (p ∷ []) ⌝ }
-{
-    let i = q.count;
-    let mut next = q;
-    next.pending[i] = p;
-    next.count = i + 1;
-    next
-}
-
 // The replica with one more pending request.
 fn add_pending(r: Replica, request: Request, at: LocalTime) -> Replica
     requires { ⌜ r .queue .count < 64 ⌝ }
     ensures { λ s. ⌜ stateOf s ≡ arrive (stateOf r) request at ⌝ }
 {
-    let p = Pending {
+    let mut queue = r.queue;
+    let i = queue.count;
+    queue.pending[i] = Pending {
         request,
         arrival: at,
     };
+    queue.count = i + 1;
     let mut next = r;
-    next.queue = push(r.queue, p);
+    next.queue = queue;
     next.last = at;
     next
 }
