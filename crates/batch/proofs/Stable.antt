@@ -1,6 +1,6 @@
 -- The head that the code finds, request by request, is that of the rules: its timestamp is the group's, and its first arrival is
 -- late exactly where the group's batch is stable.
-use Prim.Native.Nat.{ℕ, _+_, _≤_, min}
+use Prim.Native.Nat.{ℕ, _+_, min}
 use mathlib.Core.Path.{_≡_, refl, sym, ap, _∙_}
 use mathlib.Core.Logic.{_⊎_, inl, inr, ⊎-elim}
 use mathlib.Core.Bool.{Bool, true, false, _&&_, _||_, or-assoc, or-comm, or-false, and-or-distrib-left}
@@ -15,15 +15,12 @@ use Rattle.rules.specs.Lists.{keep, some}
 use Rattle.rules.specs.Replica.{stamped, lowest, requestsOf, ofGroup, groupTimestamp, batchOf, earlier, earliest, isStable}
 use Rattle.rules.specs.declared.Pending.{Pending}
 use Rattle.laws.proofs.Lists.{case}
+use Rattle.laws.proofs.Least.{lowest-start}
 use Rattle.batch.specs.Head.{join, headFrom, headIn, isLate, whereLate}
 use Rattle.batch.specs.declared.pending.Head.{Head}
 use Rattle.batch.specs.declared.pending.Head.the-variants.{Nothing, At}
 
 -- ── the least timestamp, from either end ──
-
-lowest-start : (t : Timestamp) (l : List Request) → lowest t l .0 ≤ t .0
-lowest-start t [] = omega arith
-lowest-start t (r ∷ l) = omega (arith, lowest-start t l)
 
 lowest-swap : (t u : Timestamp) (l : List Request) → min (t .0) (lowest u l .0) ≡ min (u .0) (lowest t l .0)
 lowest-swap t u [] = omega arith

@@ -16,9 +16,35 @@ use Rattle.rules.specs.Replica.{stamped, lowest, least, requestsOf, ofGroup, gr
 use Rattle.rules.specs.declared.Pending.{Pending}
 use Rattle.laws.proofs.Lists.{case, true-not-false, keep-in, in-keep, keep-none, keep-parts, keep-both, keep-keep, in-length, map-in}
 
+-- ── the least of some numbers ──
+
+module _ {A : Type 0} (f : A → ℕ) where
+  -- of a number and those of a list
+  abbrev leastBy : ℕ → List A → ℕ
+  leastBy n [] = n
+  leastBy n (x ∷ l) = min (f x) (leastBy n l)
+
+  -- some element has it
+  least-by-hit : (x : A) (l : List A) → (y : A) × List·Memᴰ y (x ∷ l) × (f y ≡ leastBy (f x) l)
+  least-by-hit x [] = (x, List·Memᴰ·head refl, refl)
+  least-by-hit x (z ∷ l) = go (least-by-hit x l) (leb (f z) (leastBy (f x) l)) refl
+    where
+      there : {y : A} → (y ≡ x) ⊎ List·Memᴰ y l → List·Memᴰ y (x ∷ z ∷ l)
+      there (inl e) = List·Memᴰ·head e
+      there (inr m) = List·Memᴰ·tail (List·Memᴰ·tail m)
+
+      go : (y : A) × List·Memᴰ y (x ∷ l) × (f y ≡ leastBy (f x) l) → (b : Bool) → leb (f z) (leastBy (f x) l) ≡ b
+          → (y : A) × List·Memᴰ y (x ∷ z ∷ l) × (f y ≡ min (f z) (leastBy (f x) l))
+      go h true e = (z, List·Memᴰ·tail (List·Memᴰ·head refl), omega (arith, leb-true (f z) (leastBy (f x) l) e))
+      go h false e = (h .0, there (List·Memᴰ·cases-cons (h .1)), omega (arith, h .2, leb-false (f z) (leastBy (f x) l) e))
+
 -- ── the least timestamp ──
 
-lowest-start : (t : Timestamp) (l : List Request) → lowest t l .0 ≤ t .0
+lowest-by : (t : Timestamp) (l : List Request) → leastBy (λ r. r .timestamp .0) (t .0) l ≡ lowest t l .0
+lowest-by t [] = refl
+lowest-by t (r ∷ l) = ap (min (r .timestamp .0)) (lowest-by t l)
+
+pub lowest-start : (t : Timestamp) (l : List Request) → lowest t l .0 ≤ t .0
 lowest-start t [] = omega arith
 lowest-start t (r ∷ l) = omega (arith, lowest-start t l)
 
@@ -29,20 +55,6 @@ lowest-below t l (List·Memᴰ·tail {xs = xs} m) = omega (arith, lowest-below t
 lowest-above : (b : ℕ) (t : Timestamp) (l : List Request) → b ≤ t .0 → ((q : Request) → List·Memᴰ q l → b ≤ q .timestamp .0) → b ≤ lowest t l .0
 lowest-above b t [] h k = h
 lowest-above b t (q ∷ l) h k = omega (arith, k q (List·Memᴰ·head refl), lowest-above b t l h (λ r m. k r (List·Memᴰ·tail m)))
-
-lowest-hit : (q : Request) (l : List Request) → (r : Request) × List·Memᴰ r (q ∷ l) × (r .timestamp .0 ≡ lowest (q .timestamp) l .0)
-lowest-hit q [] = (q, List·Memᴰ·head refl, refl)
-lowest-hit q (p ∷ l) = go (lowest-hit q l) (leb (p .timestamp .0) (lowest (q .timestamp) l .0)) refl
-  where
-    there : {r : Request} → (r ≡ q) ⊎ List·Memᴰ r l → List·Memᴰ r (q ∷ p ∷ l)
-    there (inl e) = List·Memᴰ·head e
-    there (inr m) = List·Memᴰ·tail (List·Memᴰ·tail m)
-
-    go : (r : Request) × List·Memᴰ r (q ∷ l) × (r .timestamp .0 ≡ lowest (q .timestamp) l .0)
-        → (b : Bool) → leb (p .timestamp .0) (lowest (q .timestamp) l .0) ≡ b
-        → (r : Request) × List·Memᴰ r (q ∷ p ∷ l) × (r .timestamp .0 ≡ min (p .timestamp .0) (lowest (q .timestamp) l .0))
-    go h true e = (p, List·Memᴰ·tail (List·Memᴰ·head refl), omega (arith, leb-true (p .timestamp .0) (lowest (q .timestamp) l .0) e))
-    go h false e = (h .0, there (List·Memᴰ·cases-cons (h .1)), omega (arith, h .2, leb-false (p .timestamp .0) (lowest (q .timestamp) l .0) e))
 
 -- no request has a lesser timestamp
 pub least-below : (l : List Request) {q : Request} → List·Memᴰ q l → least l .0 ≤ q .timestamp .0
@@ -59,24 +71,17 @@ least-above b q l h = lowest-above b (q .timestamp) l (h q (List·Memᴰ·head r
 -- some request has it
 pub least-hit : (l : List Request) {q : Request} → List·Memᴰ q l → (r : Request) × List·Memᴰ r l × (r .timestamp .0 ≡ least l .0)
 least-hit [] m = absurd (List·Memᴰ·not-nil m)
-least-hit (r ∷ l) m = lowest-hit r l
+least-hit (r ∷ l) m = let h = least-by-hit (λ (q : Request). q .timestamp .0) r l in (h .0, h .1, h .2 ∙ lowest-by (r .timestamp) l)
 
 -- ── the earliest arrival ──
 
+earliest-by : (at : LocalTime) (l : List Pending) → leastBy (λ p. p .arrival .0) (at .0) l ≡ earliest at l .0
+earliest-by at [] = refl
+earliest-by at (p ∷ l) = ap (min (p .arrival .0)) (earliest-by at l)
+
 -- some request of the list arrived then
 pub earliest-hit : (p : Pending) (l : List Pending) → (q : Pending) × List·Memᴰ q (p ∷ l) × (q .arrival .0 ≡ earliest (p .arrival) l .0)
-earliest-hit p [] = (p, List·Memᴰ·head refl, refl)
-earliest-hit p (x ∷ l) = go (earliest-hit p l) (leb (x .arrival .0) (earliest (p .arrival) l .0)) refl
-  where
-    there : {r : Pending} → (r ≡ p) ⊎ List·Memᴰ r l → List·Memᴰ r (p ∷ x ∷ l)
-    there (inl e) = List·Memᴰ·head e
-    there (inr m) = List·Memᴰ·tail (List·Memᴰ·tail m)
-
-    go : (r : Pending) × List·Memᴰ r (p ∷ l) × (r .arrival .0 ≡ earliest (p .arrival) l .0)
-        → (b : Bool) → leb (x .arrival .0) (earliest (p .arrival) l .0) ≡ b
-        → (r : Pending) × List·Memᴰ r (p ∷ x ∷ l) × (r .arrival .0 ≡ min (x .arrival .0) (earliest (p .arrival) l .0))
-    go h true e = (x, List·Memᴰ·tail (List·Memᴰ·head refl), omega (arith, leb-true (x .arrival .0) (earliest (p .arrival) l .0) e))
-    go h false e = (h .0, there (List·Memᴰ·cases-cons (h .1)), omega (arith, h .2, leb-false (x .arrival .0) (earliest (p .arrival) l .0) e))
+earliest-hit p l = let h = least-by-hit (λ (q : Pending). q .arrival .0) p l in (h .0, h .1, h .2 ∙ earliest-by (p .arrival) l)
 
 -- a stable batch has a request that arrived more than δ ago
 pub stable-hit : (delta : ℕ) (now : LocalTime) (l : List Pending) → isStable delta now l ≡ true

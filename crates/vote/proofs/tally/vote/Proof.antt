@@ -36,7 +36,6 @@ use denote.Triple.Walked.{says, Stays, stay-none, stay-none-slice, walkOf, goes-
 use denote.Triple.Clauses.{ensured, lasts}
 use denote.Exit.{yes}
 use Rattle.record.proofs.message.Message as T
-use Rattle.rules.specs.Vote.{vote}
 use Rattle.rules.specs.declared.Query.{Query}
 use Rattle.rules.proofs.Query as Q
 use Rattle.rules.proofs.Query.Laws as Q′
