@@ -6,13 +6,11 @@ ghost use Rattle.ballot.specs.Ballot.{newBallot, hearReply, hearHalt, an
 use crate::sets::is_replica;
 use crate::sets::lacks;
 use crate::sets::with;
+use record::HALT;
 use record::Message;
+use record::REPLY;
 use record::Timestamp;
 use rules::Query;
-
-const REPLY: u8 = 3;
-
-const HALT: u8 = 4;
 
 pub struct Ballot {
     // The value of each replica's first counting reply, at the index that is its number. Copies of

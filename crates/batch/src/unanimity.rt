@@ -7,13 +7,12 @@ ghost use Rattle.batch.specs.State.{waiting};
 ghost use Rattle.batch.specs.Head.{batchAt, firstOf};
 use crate::pending::in_batch;
 use crate::queue::Queue;
+use crate::queue::blank_request;
 use crate::queue::pending_count;
+use record::READ;
 use record::Request;
 use record::Timestamp;
-
-const READ: u8 = 1;
-
-const WRITE: u8 = 2;
+use record::WRITE;
 
 pub fn all_reads(q: Queue, group: u8, t: Timestamp) -> bool
     ensures { λ b. ⌜ b ≡ allReads (batchAt group t (waiting q)) ⌝ }
@@ -43,14 +42,7 @@ pub fn first_of(q: Queue, group: u8, t: Timestamp) -> Request
         }
         i += 1;
     }
-    Request {
-        kind: 0,
-        group: 0,
-        process: 0,
-        variable: 0,
-        timestamp: Timestamp(0),
-        value: 0,
-    }
+    blank_request()
 }
 
 fn one_if(b: bool) -> usize

@@ -6,12 +6,11 @@ ghost use Rattle.batch.specs.State.{settings, stateOf};
 ghost use Rattle.delivery.specs.Made.{newReplica, leastState};
 use batch::Queue;
 use batch::Replica;
+use batch::blank_request;
 use question::Outcome;
 use question::ask;
 use question::is_within;
 use record::LocalTime;
-use record::Request;
-use record::Timestamp;
 use rules::Pending;
 
 // A refused making still has a replica beside its number: that of the least unit there is.
@@ -38,14 +37,7 @@ fn check_make(k: u8, n: u8, owner: u8, delta: u64, number: u8) -> Outcome
 fn new_replica(k: u8, n: u8, owner: u8, delta: u64, number: u8) -> Replica
     ensures { λ r. ⌜ r ≡ newReplica k n owner delta number ⌝ }
 {
-    let request = Request {
-        kind: 0,
-        group: 0,
-        process: 0,
-        variable: 0,
-        timestamp: Timestamp(0),
-        value: 0,
-    };
+    let request = blank_request();
     let free = Pending {
         request,
         arrival: LocalTime(0),

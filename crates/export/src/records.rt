@@ -2,8 +2,8 @@
 ghost use mathlib.Core.Path.{_≡_};
 ghost use Rattle.question.specs.Question.{given, after, verdict, outcome};
 ghost use Rattle.record.specs.Record.{requestAnswer, messageAnswer, readRequest, readMessage, writeRequest, writeMessage};
-ghost use Rattle.batch.specs.State.{blankRequest};
 ghost use Rattle.export.specs.Result.{refusalOf, noMessage, requestResult, messageResult};
+use batch::blank_request;
 use question::Outcome;
 use record::Message;
 use record::MessageRead;
@@ -29,19 +29,6 @@ pub(crate) fn refusal_of(o: Outcome) -> u8
     match o {
         Outcome::Done => 0,
         Outcome::Refused(number) => number,
-    }
-}
-
-fn no_request() -> Request
-    ensures { λ r. ⌜ r ≡ blankRequest ⌝ }
-{
-    Request {
-        kind: 0,
-        group: 0,
-        process: 0,
-        variable: 0,
-        timestamp: Timestamp(0),
-        value: 0,
     }
 }
 
@@ -85,7 +72,7 @@ fn request_result(read: RequestRead) -> RequestResult
         RequestRead::Accepted(request) => accepted_request(request),
         RequestRead::Refused(refusal) => RequestResult {
             refusal,
-            request: no_request(),
+            request: blank_request(),
         },
     }
 }

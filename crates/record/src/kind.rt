@@ -5,11 +5,14 @@ ghost use Rattle.record.specs.Record.{read, write, reply, halt, familyOf
 use crate::fields::Fields;
 use question::is_within;
 
-pub(crate) const WRITE: u8 = 2;
+// Document 01's kinds.
+pub const READ: u8 = 1;
 
-pub(crate) const REPLY: u8 = 3;
+pub const WRITE: u8 = 2;
 
-pub(crate) const HALT: u8 = 4;
+pub const REPLY: u8 = 3;
+
+pub const HALT: u8 = 4;
 
 pub enum Family {
     Requests,

@@ -11,13 +11,11 @@ ghost use Rattle.replica.specs.Output.{writeAt};
 use batch::Replica;
 use batch::in_batch;
 use batch::pending_count;
+use record::HALT;
 use record::Message;
+use record::REPLY;
 use record::Request;
 use record::Timestamp;
-
-const REPLY: u8 = 3;
-
-const HALT: u8 = 4;
 
 // Writes a message behind the first `count`, where there is room.
 fn put(k: u8, n: u8, m: Message, output: &mut [u8], count: usize)

@@ -6,9 +6,8 @@ ghost use lib.ListN.{length};
 ghost use Rattle.batch.specs.State.{stateOf};
 ghost use Rattle.unit.specs.Text.{textOf, decimal, spaced, firstFour, messageLine, refusalLine, cardLine};
 use record::Message;
+use record::REPLY;
 use replica::Replica;
-
-const REPLY: u8 = 3;
 
 pub struct Line {
     pub bytes: [u8; 160],

@@ -51,10 +51,14 @@ loop-again c =
     let next = left-next (r .count) (r .pending) (l .loop .i) free (omega (arith, l .before .pending-count .ensures .0)) in
     (omega arith, rw (next, ← c .before .in-batch .ensures, c .if1 .left) at (l .loop .inv .1))
 
+blank-request-requires : tie.Need-blank-request-requires Inv-loop μ-loop
+blank-request-requires c κs = search needs
+
 returns-2 : tie.Need-returns-2 Inv-loop μ-loop
 returns-2 c =
-    let r = c .before .before .before .args .t1 in
-    rw (← c .before .loop .inv .1, left-none (r .count) (r .pending) (c .before .loop .i) (omega (arith, c .before .before .pending-count .ensures .0)))
+    let l = c .before .before in
+    let r = l .before .before .args .t1 in
+    rw (← l .loop .inv .1, left-none (r .count) (r .pending) (l .loop .i) (omega (arith, l .before .pending-count .ensures .0))) (c .blank-request .ensures)
 
 pub first-of-spec : {M : Type 1} → statement M
 first-of-spec =
@@ -71,4 +75,5 @@ first-of-spec =
     add-i
     loop-less
     loop-again
+    blank-request-requires
     returns-2)
