@@ -69,8 +69,7 @@ typedef struct {
     size_t count;
 } export_list;
 
-/* `refusal` is document 01's number, or 0. Where it is not 0, zeros stand beside it, or the replica as it
-   came; a refused making has that of the least unit. */
+/* Beside a refusal stand zeros, or the replica as it came; a refused making has that of the least unit. */
 typedef struct { uint8_t refusal; export_request request; } export_request_result;
 typedef struct { uint8_t refusal; export_message message; } export_message_result;
 typedef struct { uint8_t refusal; export_replica replica; } export_replica_result;

@@ -2,12 +2,13 @@
 ghost use mathlib.Core.Path.{_≡_};
 ghost use Prim.Native.Nat.{_≤_};
 ghost use Rattle.ballot.specs.Sets.{isReplica, has, lacks, with};
+use question::is_within;
 
 // Whether any unit has a replica of this number.
 pub(crate) fn is_replica(number: u8) -> bool
     ensures { λ r. ⌜ r ≡ isReplica number ⌝ }
 {
-    (1 <= number) & (number <= 7)
+    is_within(1, 7, number as u64)
 }
 
 pub(crate) fn has(set: u8, replica: usize) -> bool
