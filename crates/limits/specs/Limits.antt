@@ -1,0 +1,44 @@
+-- Document 01's sizes and limits, each said once. src/lib.rt has the same numbers for the code.
+use Prim.Native.Nat.{ℕ, _*_, _^_}
+
+-- k is at most this
+abbrev pub maxK : ℕ
+maxK = 3
+
+-- document 01's N, the number of groups, is at most this
+abbrev pub maxGroups : ℕ
+maxGroups = 4
+
+-- δ is at most this, in units of a replica's clock
+abbrev pub maxDelta : ℕ
+maxDelta = 1000000
+
+-- the latest local time, document 01's reading
+abbrev pub maxTime : ℕ
+maxTime = 2 ^ 62
+
+-- the variables of a copy
+abbrev pub variableCount : ℕ
+variableCount = 256
+
+-- the pending requests, document 01's shelf, that a replica has places for
+abbrev pub places : ℕ
+places = 64
+
+-- the bytes of a record, and those of an entry of a journal
+abbrev pub recordSize : ℕ
+recordSize = 24
+
+abbrev pub entrySize : ℕ
+entrySize = 40
+
+-- the records that a step may send, and the bytes that it must be lent for them
+abbrev pub maxSent : ℕ
+maxSent = 67
+
+abbrev pub outputSize : ℕ
+outputSize = maxSent * recordSize
+
+-- the messages of a list that is voted on
+abbrev pub maxList : ℕ
+maxList = 64

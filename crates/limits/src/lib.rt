@@ -1,0 +1,36 @@
+// Document 01's sizes and limits, each said once. The definitions take the same numbers from
+// specs/Limits.antt.
+
+// k is at most this.
+pub const MAX_K: u8 = 3;
+
+// Document 01's N, the number of groups, is at most this.
+pub const MAX_GROUPS: u8 = 4;
+
+// The replicas of the largest unit: 2k + 1.
+pub const MAX_REPLICAS: u8 = 7;
+
+// δ is at most this, in units of a replica's clock.
+pub const MAX_DELTA: u64 = 1000000;
+
+// The latest local time (document 01's reading): 2^62.
+pub const MAX_TIME: u64 = 4611686018427387904;
+
+// The variables of a copy.
+pub const VARIABLES: usize = 256;
+
+// The pending requests (document 01's shelf) that a replica has places for.
+pub const PLACES: usize = 64;
+
+// The bytes of a record, and those of an entry of a journal.
+pub const RECORD: usize = 24;
+
+pub const ENTRY: usize = 40;
+
+// The records that a step may send, and the bytes that it must be lent for them.
+pub const MAX_SENT: usize = 67;
+
+pub const OUTPUT: usize = MAX_SENT * RECORD;
+
+// The messages of a list that is voted on.
+pub const MAX_LIST: usize = 64;
