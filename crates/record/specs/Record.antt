@@ -1,71 +1,80 @@
--- Document 01, "Records" and the questions of "Reading or writing a record, requests and messages separately".
+-- Document 01, "Records" and the questions of "Reading or writing a record, requests and messages separately". What differs between
+-- requests and messages is who sends and what the kind may carry (Kind.antt); the path is one.
 use Prim.Native.Nat.{ℕ, _+_, _*_}
-use mathlib.Core.Bool.{Bool, cond, _&&_, _||_}
+use mathlib.Core.Bool.{Bool, true, false, _&&_, _||_}
 use mathlib.Core.List.{List, [], _∷_, _++_}
 use lib.Dec.{eqb, leb}
 use lib.ListN.{length, drop}
-use Rattle.question.specs.Question.{Question, _else_, Answer, given, refused, ask, within, unitQuestions}
+use Rattle.limits.specs.Limits.{recordSize}
+use Rattle.question.specs.Question.{Question, _else_, Answer, given, refused, ask, mapAnswer, allYes, within, unitQuestions}
 use Rattle.record.specs.Layout.{fieldsOf, bytesOf}
+use Rattle.record.specs.Kind.{isOf, rowOf}
 use Rattle.record.specs.declared.fields.Fields.{Fields}
 use Rattle.record.specs.declared.kind.Family.{Family}
 use Rattle.record.specs.declared.kind.Family.the-variants.{Requests, Messages, Neither}
+use Rattle.record.specs.declared.check.FieldsRead.{FieldsRead}
 use Rattle.record.specs.declared.request.Request.{Request}
 use Rattle.record.specs.declared.request.RequestRead.{RequestRead}
 use Rattle.record.specs.declared.message.Message.{Message}
 use Rattle.record.specs.declared.message.MessageRead.{MessageRead}
 
--- ── kinds ──
+-- ── what is asked of the fields ──
 
-abbrev pub read : ℕ
-read = 1
+-- byte 3: a message says which replica sends it
+abbrev pub hasSender : Family → Bool
+hasSender Messages = true
+hasSender Requests = false
+hasSender Neither = false
 
-abbrev pub write : ℕ
-write = 2
+abbrev pub senderQuestions : Family → ℕ → Fields → List Question
+senderQuestions Messages k f = (within 1 (2 * k + 1) (f .replica) else 5) ∷ []
+senderQuestions Requests k f = []
+senderQuestions Neither k f = []
 
-abbrev pub reply : ℕ
-reply = 3
+abbrev pub allowsVariable : Fields → Bool
+allowsVariable f = within (rowOf (f .kind) .least) (rowOf (f .kind) .greatest) (f .variable)
 
-abbrev pub halt : ℕ
-halt = 4
+-- byte 3, bytes 6–7 and bytes 20–23 are zero where nothing stands in them
+abbrev pub sparesZero : Family → Fields → Bool
+sparesZero family f =
+    (hasSender family || eqb (f .replica) 0)
+    && (rowOf (f .kind) .bytes6 || eqb (f .spare6) 0)
+    && (rowOf (f .kind) .bytes20 || eqb (f .spare20) 0)
 
--- ── what the kind allows ──
+abbrev pub allowsValue : Fields → Bool
+allowsValue f = rowOf (f .kind) .value || eqb (f .value) 0
 
--- the variable: 0 to 255, in a write 1 to 255, in a halt 0
-abbrev pub allowsVariable : ℕ → ℕ → Bool
-allowsVariable kind variable = within (cond (eqb kind write) 1 0) (cond (eqb kind halt) 0 255) variable
-
--- the value: that of a read or a halt is 0
-abbrev pub allowsValue : ℕ → ℕ → Bool
-allowsValue kind value = eqb kind write || eqb kind reply || eqb value 0
-
--- bytes 6–7 and 20–23 are zero
-abbrev pub sparesZero : Fields → Bool
-sparesZero f = eqb (f .spare6) 0 && eqb (f .spare20) 0
-
--- ── the questions of a record's fields ──
-
--- of a request: 7 to 11. Its byte 3, the replica, is zero
-unfoldable pub requestQuestions : ℕ → ℕ → Fields → List Question
-requestQuestions k n f =
-    (within read write (f .kind) else 7)
+-- 7 to 11, with 5 of a message's sender after 9
+unfoldable pub fieldQuestions : Family → ℕ → ℕ → Fields → List Question
+fieldQuestions family k n f =
+    (isOf family (f .kind) else 7)
     ∷ (within 1 n (f .group) else 8)
     ∷ (within 1 (k + 1) (f .process) else 9)
-    ∷ (allowsVariable (f .kind) (f .variable) else 10)
-    ∷ (eqb (f .replica) 0 && sparesZero f && allowsValue (f .kind) (f .value) else 11)
-    ∷ []
+    ∷ (senderQuestions family k f
+    ++ ((allowsVariable f else 10)
+    ∷ (sparesZero family f && allowsValue f else 11)
+    ∷ []))
 
--- of a message: 7 to 11, with 5 of the replica that sends it after 9
-unfoldable pub messageQuestions : ℕ → ℕ → Fields → List Question
-messageQuestions k n f =
-    (within reply halt (f .kind) else 7)
-    ∷ (within 1 n (f .group) else 8)
-    ∷ (within 1 (k + 1) (f .process) else 9)
-    ∷ (within 1 (2 * k + 1) (f .replica) else 5)
-    ∷ (allowsVariable (f .kind) (f .variable) else 10)
-    ∷ (sparesZero f && allowsValue (f .kind) (f .value) else 11)
-    ∷ []
+-- ── reading and writing, of fields ──
 
--- ── requests and messages as fields ──
+-- reading: 1 and 2, the length, then those of the fields
+abbrev pub readQuestions : Family → ℕ → ℕ → List ℕ → List Question
+readQuestions family k n bytes =
+    unitQuestions k n ++ ((eqb (length bytes) recordSize else 6) ∷ fieldQuestions family k n (fieldsOf bytes))
+
+unfoldable pub readFields : Family → ℕ → ℕ → List ℕ → Answer Fields
+readFields family k n bytes = ask (readQuestions family k n bytes) (given (fieldsOf bytes))
+
+-- writing: 1 and 2, those of the fields, then the room; it gives the destination, changed in its first 24 bytes
+abbrev pub writeQuestions : Family → ℕ → ℕ → Fields → List ℕ → List Question
+writeQuestions family k n f destination =
+    unitQuestions k n ++ (fieldQuestions family k n f ++ ((leb recordSize (length destination) else 15) ∷ []))
+
+unfoldable pub writeFields : Family → ℕ → ℕ → Fields → List ℕ → Answer (List ℕ)
+writeFields family k n f destination =
+    ask (writeQuestions family k n f destination) (given (bytesOf f ++ drop recordSize destination))
+
+-- ── requests ──
 
 abbrev pub requestIn : Fields → Request
 requestIn f = record { kind = f .kind; group = f .group; process = f .process; variable = f .variable; timestamp = f .timestamp; value = f .value }
@@ -82,6 +91,18 @@ requestFields r = record {
   value = r .value;
   spare20 = 0;
 }
+
+abbrev pub readRequest : ℕ → ℕ → List ℕ → Answer Request
+readRequest k n bytes = mapAnswer requestIn (readFields Requests k n bytes)
+
+abbrev pub writeRequest : ℕ → ℕ → Request → List ℕ → Answer (List ℕ)
+writeRequest k n r destination = writeFields Requests k n (requestFields r) destination
+
+-- no request: what stands where there is none
+abbrev pub blankRequest : Request
+blankRequest = record { kind = 0; group = 0; process = 0; variable = 0; timestamp = record { 0 = 0 }; value = 0 }
+
+-- ── messages ──
 
 abbrev pub messageIn : Fields → Message
 messageIn f = record {
@@ -107,32 +128,25 @@ messageFields m = record {
   spare20 = 0;
 }
 
--- ── reading and writing ──
-
--- reading: 1 and 2, the length, then those of the fields; it gives what is seen in the fields
-unfoldable pub readWith : {A : Type 0} → ℕ → ℕ → (Fields → List Question) → (Fields → A) → List ℕ → Answer A
-readWith k n questions seen bytes =
-    ask (unitQuestions k n) (ask ((eqb (length bytes) 24 else 6) ∷ []) (ask (questions (fieldsOf bytes)) (given (seen (fieldsOf bytes)))))
-
--- writing: 1 and 2, those of the fields, then the room; it gives the destination, changed in its first 24 bytes
-unfoldable pub writeWith : ℕ → ℕ → (Fields → List Question) → Fields → List ℕ → Answer (List ℕ)
-writeWith k n questions f destination =
-    ask (unitQuestions k n)
-    (ask (questions f) (ask ((leb 24 (length destination) else 15) ∷ []) (given (bytesOf f ++ drop 24 destination))))
-
-abbrev pub readRequest : ℕ → ℕ → List ℕ → Answer Request
-readRequest k n bytes = readWith k n (requestQuestions k n) requestIn bytes
-
 abbrev pub readMessage : ℕ → ℕ → List ℕ → Answer Message
-readMessage k n bytes = readWith k n (messageQuestions k n) messageIn bytes
-
-abbrev pub writeRequest : ℕ → ℕ → Request → List ℕ → Answer (List ℕ)
-writeRequest k n r destination = writeWith k n (requestQuestions k n) (requestFields r) destination
+readMessage k n bytes = mapAnswer messageIn (readFields Messages k n bytes)
 
 abbrev pub writeMessage : ℕ → ℕ → Message → List ℕ → Answer (List ℕ)
-writeMessage k n m destination = writeWith k n (messageQuestions k n) (messageFields m) destination
+writeMessage k n m destination = writeFields Messages k n (messageFields m) destination
+
+-- the message passes the message questions
+abbrev pub passes : ℕ → ℕ → Message → Bool
+passes k n m = allYes (fieldQuestions Messages k n (messageFields m))
+
+-- no message: what stands where there is none
+abbrev pub blankMessage : Message
+blankMessage = record { kind = 0; group = 0; process = 0; replica = 0; variable = 0; timestamp = record { 0 = 0 }; value = 0 }
 
 -- ── the answers of the code: document 01's number and values for each case ──
+
+abbrev pub fieldsAnswer : FieldsRead → Answer Fields
+fieldsAnswer (FieldsRead.Accepted f) = given f
+fieldsAnswer (FieldsRead.Refused number) = refused number
 
 abbrev pub requestAnswer : RequestRead → Answer Request
 requestAnswer (RequestRead.Accepted r) = given r
@@ -141,7 +155,3 @@ requestAnswer (RequestRead.Refused number) = refused number
 abbrev pub messageAnswer : MessageRead → Answer Message
 messageAnswer (MessageRead.Accepted m) = given m
 messageAnswer (MessageRead.Refused number) = refused number
-
--- the family that a kind decides
-abbrev pub familyOf : ℕ → Family
-familyOf kind = cond (within read write kind) Requests (cond (within reply halt kind) Messages Neither)

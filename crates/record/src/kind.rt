@@ -1,9 +1,7 @@
-// What the kind of a record decides: its family, and the variable and value that it may carry.
+// The kinds of records, a row for each: what a record of the kind is for, and what it may carry.
 ghost use mathlib.Core.Path.{_≡_};
-ghost use Rattle.question.specs.Question.{within};
-ghost use Rattle.record.specs.Record.{read, write, reply, halt, familyOf, allowsVariable, allowsValue, sparesZero};
-use crate::fields::Fields;
-use question::is_within;
+ghost use mathlib.Core.Bool.{false};
+ghost use Rattle.record.specs.Kind.{familyOf, familyNumber, isOf, row, rowOf};
 
 // Document 01's kinds.
 pub const READ: u8 = 1;
@@ -30,42 +28,57 @@ pub(crate) fn family_of(kind: u8) -> Family
     }
 }
 
-pub(crate) fn is_request(kind: u8) -> bool
-    ensures { λ r. ⌜ r ≡ within read write kind ⌝ }
+// A number for each family, to tell them apart by.
+fn family_number(family: Family) -> u8
+    ensures { λ r. ⌜ r ≡ familyNumber family ⌝ }
 {
-    match family_of(kind) {
-        Family::Requests => true,
-        Family::Messages => false,
-        Family::Neither => false,
+    match family {
+        Family::Neither => 0,
+        Family::Requests => 1,
+        Family::Messages => 2,
     }
 }
 
-pub(crate) fn is_message(kind: u8) -> bool
-    ensures { λ r. ⌜ r ≡ within reply halt kind ⌝ }
+// Whether a kind is of the family.
+pub(crate) fn is_of(family: Family, kind: u8) -> bool
+    ensures { λ b. ⌜ b ≡ isOf family kind ⌝ }
 {
-    match family_of(kind) {
-        Family::Requests => false,
-        Family::Messages => true,
-        Family::Neither => false,
+    family_number(family_of(kind)) == family_number(family)
+}
+
+// What a record of a kind may carry.
+pub struct Row {
+    // The variables that it admits.
+    pub least: u16,
+    pub greatest: u16,
+    // Whether the value, bytes 6 and 7, bytes 20 to 23 may be other than zero.
+    pub value: bool,
+    pub bytes6: bool,
+    pub bytes20: bool,
+}
+
+impl Row {
+    fn new(least: u16, greatest: u16, value: bool) -> Row
+        ensures { λ r. ⌜ r ≡ row least greatest value false false ⌝ }
+    {
+        Row {
+            least,
+            greatest,
+            value,
+            bytes6: false,
+            bytes20: false,
+        }
     }
 }
 
-pub(crate) fn allows_variable(kind: u8, variable: u16) -> bool
-    ensures { λ r. ⌜ r ≡ allowsVariable kind variable ⌝ }
+pub(crate) fn row_of(kind: u8) -> Row
+    ensures { λ r. ⌜ r ≡ rowOf kind ⌝ }
 {
-    let low = if kind == WRITE { 1 } else { 0 };
-    let high = if kind == HALT { 0 } else { 255 };
-    is_within(low, high, variable as u64)
-}
-
-pub(crate) fn allows_value(kind: u8, value: u32) -> bool
-    ensures { λ r. ⌜ r ≡ allowsValue kind value ⌝ }
-{
-    (kind == WRITE) | (kind == REPLY) | (value == 0)
-}
-
-pub(crate) fn spares_zero(f: Fields) -> bool
-    ensures { λ r. ⌜ r ≡ sparesZero f ⌝ }
-{
-    (f.spare6 == 0) & (f.spare20 == 0)
+    match kind {
+        1 => Row::new(0, 255, false),
+        2 => Row::new(1, 255, true),
+        3 => Row::new(0, 255, true),
+        4 => Row::new(0, 0, false),
+        _ => Row::new(0, 0, false),
+    }
 }
