@@ -3,7 +3,7 @@
 use Prim.Native.Nat.{ℕ}
 use mathlib.Core.List.{List, [], _∷_}
 use lib.ListN.{length}
-use Rattle.question.specs.Question.{Answer, given, refused, bind}
+use Rattle.question.specs.Question.{Answer, given, refused, mapAnswer}
 use Rattle.record.specs.declared.message.Message.{Message}
 use Rattle.rules.specs.Batch.{replyWith, haltTo}
 use Rattle.rules.specs.Replica.{State, newState, requestsOf, step}
@@ -29,7 +29,7 @@ pub data Seen : Type 0 where
 abbrev stepAnswers : State → List Call → List (Answer ℕ)
 stepAnswers s [] = []
 stepAnswers s (delivery bytes now ∷ calls) = stepAnswers (call s (delivery bytes now) .state) calls
-stepAnswers s (turn now output ∷ calls) = bind (step s now output) (λ d. given (d .count)) ∷ stepAnswers (call s (turn now output) .state) calls
+stepAnswers s (turn now output ∷ calls) = mapAnswer (λ d. d .count) (step s now output) ∷ stepAnswers (call s (turn now output) .state) calls
 
 abbrev pub see : Example → Seen
 see (play calls) =

@@ -1,18 +1,20 @@
 -- The replica (document 01's storage card, Schneider's s-process): its state, and the three calls with their questions.
-use Prim.Native.Nat.{ℕ, zero, suc, _+_, _*_, _^_, min}
+use Prim.Native.Nat.{ℕ, zero, suc, _+_, _*_, min}
 use mathlib.Core.Bool.{Bool, false, cond, not, _&&_}
 use mathlib.Core.List.{List, [], _∷_, _++_, map}
 use lib.Dec.{eqb, leb, ltb}
 use lib.ListN.{length, take, drop}
-use Rattle.question.specs.Question.{Question, _else_, Answer, given, ask, bind, after, within}
+use Rattle.limits.specs.Limits.{maxDelta, maxTime, places, recordSize, outputSize}
+use Rattle.question.specs.Question.{Question, _else_, Answer, given, ask, bind, mapAnswer, after, within, unitQuestions}
 use Rattle.record.specs.Record.{readRequest, writeMessage}
 use Rattle.record.specs.declared.clock.Timestamp.{Timestamp}
 use Rattle.record.specs.declared.clock.LocalTime.{LocalTime}
 use Rattle.record.specs.declared.request.Request.{Request}
 use Rattle.record.specs.declared.message.Message.{Message}
 use Rattle.rules.specs.Lists.{keep}
-use Rattle.rules.specs.Batch.{Settings, Store, Effect, still, follow, newStore, handle}
+use Rattle.rules.specs.Batch.{Store, Effect, still, follow, newStore, handle}
 use Rattle.rules.specs.declared.Pending.{Pending}
+use Rattle.rules.specs.declared.Settings.{Settings}
 
 pub record State : Type 0 where
   pub settings : Settings
@@ -24,16 +26,29 @@ pub record State : Type 0 where
   -- the last accepted local time, of a delivery or a step
   pub last : LocalTime
 
+-- the state with another part
+abbrev pub withStore : Store → State → State
+withStore store s = record { settings = s .settings; number = s .number; store = store; pending = s .pending; last = s .last }
+
+abbrev pub withPending : List Pending → State → State
+withPending pending s = record { settings = s .settings; number = s .number; store = s .store; pending = pending; last = s .last }
+
+abbrev pub atTime : LocalTime → State → State
+atTime now s = record { settings = s .settings; number = s .number; store = s .store; pending = s .pending; last = now }
+
 -- ── making ──
 
+-- 1 to 4: of the settings
+abbrev pub settingsQuestions : Settings → List Question
+settingsQuestions u =
+    unitQuestions (u .k) (u .groups)
+    ++ ((within 1 (u .groups) (u .owner) else 3)
+    ∷ (leb (u .delta) maxDelta else 4)
+    ∷ [])
+
+-- and 5: of the replica's number
 abbrev pub makeQuestions : Settings → ℕ → List Question
-makeQuestions u number =
-    (within 0 3 (u .k) else 1)
-    ∷ (within 1 4 (u .groups) else 2)
-    ∷ (within 1 (u .groups) (u .owner) else 3)
-    ∷ (leb (u .delta) 1000000 else 4)
-    ∷ (within 1 (2 * u .k + 1) number else 5)
-    ∷ []
+makeQuestions u number = settingsQuestions u ++ ((within 1 (2 * u .k + 1) number else 5) ∷ [])
 
 abbrev pub newState : Settings → ℕ → State
 newState u number = record { settings = u; number = number; store = newStore; pending = []; last = record { 0 = 0 } }
@@ -45,26 +60,24 @@ make u number = ask (makeQuestions u number) (given (newState u number))
 
 -- at most 2^62, and not below the last accepted one
 abbrev pub timeQuestions : LocalTime → LocalTime → List Question
-timeQuestions last now = (leb (now .0) (2 ^ 62) else 12) ∷ (leb (last .0) (now .0) else 13) ∷ []
+timeQuestions last now = (leb (now .0) maxTime else 12) ∷ (leb (last .0) (now .0) else 13) ∷ []
 
--- the request questions, with the replica's own k and N, then those of the time, then whether there is a place
+-- then whether there is a place
+abbrev pub placeQuestions : LocalTime → ℕ → LocalTime → List Question
+placeQuestions last count now = timeQuestions last now ++ ((ltb count places else 14) ∷ [])
+
+-- the request questions, with the replica's own k and N, then those
 unfoldable pub admit : State → List ℕ → LocalTime → Answer Request
 admit s bytes now =
     bind (readRequest (s .settings .k) (s .settings .groups) bytes)
-    (λ r. ask (timeQuestions (s .last) now) (ask ((ltb (length (s .pending)) 64 else 14) ∷ []) (given r)))
+    (λ r. ask (placeQuestions (s .last) (length (s .pending)) now) (given r))
 
 -- the state with one more pending request
 abbrev pub arrive : State → Request → LocalTime → State
-arrive s r now = record {
-  settings = s .settings;
-  number = s .number;
-  store = s .store;
-  pending = s .pending ++ (record { request = r; arrival = now } ∷ []);
-  last = now;
-}
+arrive s r now = atTime now (withPending (s .pending ++ (record { request = r; arrival = now } ∷ [])) s)
 
 unfoldable pub deliver : State → List ℕ → LocalTime → Answer State
-deliver s bytes now = bind (admit s bytes now) (λ r. given (arrive s r now))
+deliver s bytes now = mapAnswer (λ r. arrive s r now) (admit s bytes now)
 
 -- ── the batch of a group ──
 
@@ -93,13 +106,20 @@ ofGroup group p = eqb (p .request .group) group
 abbrev pub groupTimestamp : ℕ → List Pending → Timestamp
 groupTimestamp group pending = least (requestsOf (keep (ofGroup group) pending))
 
+-- of a group, with a timestamp
+abbrev pub inBatch : ℕ → Timestamp → Pending → Bool
+inBatch group t p = ofGroup group p && stamped t (p .request)
+
+abbrev pub batchAt : ℕ → Timestamp → List Pending → List Pending
+batchAt group t pending = keep (inBatch group t) pending
+
 -- document 01's head: the pending requests of the group with its least timestamp
 abbrev pub batchOf : ℕ → List Pending → List Pending
-batchOf group pending = keep (λ p. stamped (groupTimestamp group pending) (p .request)) (keep (ofGroup group) pending)
+batchOf group pending = batchAt group (groupTimestamp group pending) pending
 
 -- what stays when they are taken off
 abbrev pub others : ℕ → List Pending → List Pending
-others group pending = keep (λ p. not (ofGroup group p && stamped (groupTimestamp group pending) (p .request))) pending
+others group pending = keep (λ p. not (inBatch group (groupTimestamp group pending) p)) pending
 
 abbrev pub earlier : LocalTime → LocalTime → LocalTime
 earlier a b = record { 0 = min (a .0) (b .0) }
@@ -121,16 +141,7 @@ unfoldable pub handleBatch : ℕ → State → Effect State
 handleBatch group s =
     let t = groupTimestamp group (s .pending) in
     let done = handle (s .settings) (s .number) group t (requestsOf (batchOf group (s .pending))) (s .store) in
-    record {
-      state = record {
-        settings = s .settings;
-        number = s .number;
-        store = done .state;
-        pending = others group (s .pending);
-        last = s .last;
-      };
-      sent = done .sent;
-    }
+    record { state = withPending (others group (s .pending)) (withStore (done .state) s); sent = done .sent }
 
 -- the visit of a group: while its batch is stable, that batch is handled. Each handled batch takes a request off or more, so as many
 -- looks as there are pending requests are enough: the law `visit-settles` says that no stable batch is left
@@ -146,14 +157,11 @@ unfoldable pub visits : ℕ → LocalTime → State → Effect State
 visits zero now s = still s
 visits (suc n) now s = follow (visits n now s) (λ t. visit (suc n) now (length (t .pending)) t)
 
-abbrev pub atTime : State → LocalTime → State
-atTime s now = record { settings = s .settings; number = s .number; store = s .store; pending = s .pending; last = now }
-
 -- the messages written one after the other, each through the part of the output that begins where the last ended
 unfoldable pub writeAll : ℕ → ℕ → List Message → List ℕ → List ℕ
 writeAll k n [] output = output
 writeAll k n (m ∷ messages) output =
-    take 24 (after output (writeMessage k n m output)) ++ writeAll k n messages (drop 24 output)
+    take recordSize (after output (writeMessage k n m output)) ++ writeAll k n messages (drop recordSize output)
 
 -- what an accepted step leaves: the state, how many messages it sent, and the output
 pub record Stepped : Type 0 where
@@ -163,12 +171,15 @@ pub record Stepped : Type 0 where
 
 unfoldable pub stepped : State → LocalTime → List ℕ → Stepped
 stepped s now output =
-    let done = visits (s .settings .groups) now (atTime s now) in
+    let done = visits (s .settings .groups) now (atTime now s) in
     record {
       state = done .state;
       count = length (done .sent);
       output = writeAll (s .settings .k) (s .settings .groups) (done .sent) output;
     }
 
+abbrev pub stepQuestions : LocalTime → LocalTime → ℕ → List Question
+stepQuestions last now room = timeQuestions last now ++ ((leb outputSize room else 15) ∷ [])
+
 unfoldable pub step : State → LocalTime → List ℕ → Answer Stepped
-step s now output = ask (timeQuestions (s .last) now) (ask ((leb 1608 (length output) else 15) ∷ []) (given (stepped s now output)))
+step s now output = ask (stepQuestions (s .last) now (length output)) (given (stepped s now output))

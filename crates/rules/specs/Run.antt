@@ -4,6 +4,7 @@ use mathlib.Core.Bool.{cond}
 use mathlib.Core.List.{List, [], _∷_, _++_}
 use lib.Dec.{eqb}
 use lib.ListN.{take, drop}
+use Rattle.limits.specs.Limits.{recordSize}
 use Rattle.question.specs.Question.{Answer, given, refused, after}
 use Rattle.record.specs.Record.{readMessage}
 use Rattle.record.specs.declared.clock.LocalTime.{LocalTime}
@@ -26,7 +27,7 @@ accepted (refused number) = []
 -- the messages of the first records of an output
 unfoldable pub messagesIn : ℕ → ℕ → ℕ → List ℕ → List Message
 messagesIn k n zero output = []
-messagesIn k n (suc count) output = accepted (readMessage k n (take 24 output)) ++ messagesIn k n count (drop 24 output)
+messagesIn k n (suc count) output = accepted (readMessage k n (take recordSize output)) ++ messagesIn k n count (drop recordSize output)
 
 -- a step as a call: its messages are those whose records it wrote
 abbrev pub sentBy : State → Answer Stepped → Effect State
