@@ -9,14 +9,16 @@ use lib.Dec.{eqb, leb}
 use lib.ListN.{length}
 use borrow.Author.Tests.{eqb-true, eqb-false, leb-true}
 use Rattle.question.specs.Question.{_else_, Answer, given, refused, Worked, worked, ask, next, within, unitQuestions}
-use Rattle.question.proofs.Questions.{ask-next, both, within-true}
+use Rattle.question.proofs.Questions.{ask-next}
+use Rattle.question.proofs.Tests.{both, within-true}
 use Rattle.record.specs.Record.{messageQuestions}
 use Rattle.record.specs.declared.message.Message.{Message}
 use Rattle.rules.specs.Lists.{some, tally}
 use Rattle.rules.specs.Vote.{passes, counts, halts, says, support, elect, askList, vote, haltCount}
 use Rattle.rules.specs.declared.Query.{Query}
 use Rattle.laws.proofs.Ballot.{says-in, elect-wins, elect-refused}
-use Rattle.laws.proofs.Lists.{case, true-not-false, some-in, tally-hit}
+use Rattle.question.proofs.Tests.{case, true-not-false}
+use Rattle.laws.proofs.Lists.{some-in, tally-hit}
 use Rattle.ballot.specs.Sets.{has}
 use Rattle.ballot.specs.Ballot.{ballotOf, valueOf, gave, supportIn, electIn, haltCountIn, askBallot}
 use Rattle.ballot.specs.declared.ballot.Ballot.{Ballot}

@@ -11,7 +11,8 @@ use lib.Dec.{eqb, ltb, lit<}
 use lib.Pow.{pow-pos, pow-lt, pow-add, shl-shr, mod-pow-add}
 use borrow.Author.Tests.{ltb-true, ltb-false, eqb-true, eqb-false, eq-eqb, ne-eqb}
 use Rattle.rules.specs.Lists.{tally}
-use Rattle.laws.proofs.Lists.{case, tally-bound}
+use Rattle.question.proofs.Tests.{case}
+use Rattle.laws.proofs.Lists.{tally-bound}
 use Rattle.ballot.specs.Sets.{has, with}
 
 -- ── what the code computes ──

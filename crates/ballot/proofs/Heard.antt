@@ -10,13 +10,13 @@ use lib.Dec.{eqb, leb}
 use lib.ListN.{length, getD, drop, length-set}
 use lib.Seq.{getD-set-same, getD-set-other, drop-cons, drop-length}
 use borrow.Author.Tests.{le-leb, eqb-true, eqb-false, eq-eqb, ne-eqb}
-use Rattle.question.proofs.Questions.{within-true}
+use Rattle.question.proofs.Tests.{within-true}
 use Rattle.record.specs.declared.message.Message.{Message}
-use Rattle.record.specs.Record.{reply, halt}
+use Rattle.record.specs.Kind.{reply, halt}
 use Rattle.rules.specs.Lists.{some}
 use Rattle.rules.specs.Vote.{counts, halts, says}
 use Rattle.rules.specs.declared.Query.{Query}
-use Rattle.laws.proofs.Lists.{case, true-not-false}
+use Rattle.question.proofs.Tests.{case, true-not-false}
 use Rattle.ballot.specs.Sets.{isReplica, has, lacks}
 use Rattle.ballot.specs.Ballot.{newBallot, hearReply, hearHalt, hear, hearAll, ballotOf, valueOf, gave}
 use Rattle.ballot.specs.declared.ballot.Ballot.{Ballot}

@@ -7,7 +7,8 @@ use native.Mathlib.Omega.{arith}
 use lib.Dec.{leb}
 use borrow.Author.Tests.{leb-true, leb-false}
 use Rattle.rules.specs.Lists.{tally}
-use Rattle.laws.proofs.Lists.{case, tally-bound}
+use Rattle.question.proofs.Tests.{case}
+use Rattle.laws.proofs.Lists.{tally-bound}
 
 module _ (p : ℕ → Bool) where
   -- one number more adds one where it passes

@@ -6,7 +6,7 @@ use mathlib.Core.List.{List, [], _∷_}
 use lib.Dec.{eqb, leb}
 use lib.ListN.{length, getD, set, replicate}
 use Rattle.question.specs.Question.{_else_, Answer, given, refused, ask, unitQuestions}
-use Rattle.record.specs.Record.{reply, halt}
+use Rattle.record.specs.Kind.{reply, halt}
 use Rattle.record.specs.declared.message.Message.{Message}
 use Rattle.rules.specs.Lists.{tally}
 use Rattle.rules.specs.Vote.{counts, halts}

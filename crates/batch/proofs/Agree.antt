@@ -11,9 +11,10 @@ use borrow.Author.Tests.{eqb-true, eqb-false, eq-eqb, ltb-true, ltb-false}
 use Rattle.record.specs.declared.clock.Timestamp.{Timestamp}
 use Rattle.record.specs.declared.request.Request.{Request}
 use Rattle.rules.specs.Lists.{every, some}
-use Rattle.rules.specs.Batch.{isRead, isWrite, sameWrite, allReads, allSame, allSendersDiffer, unanimous}
+use Rattle.record.specs.Kind.{isRead, isWrite, sameWrite}
+use Rattle.rules.specs.Batch.{allReads, allSame, allSendersDiffer, unanimous}
 use Rattle.rules.specs.declared.Pending.{Pending}
-use Rattle.laws.proofs.Lists.{case}
+use Rattle.question.proofs.Tests.{case}
 use Rattle.batch.specs.Head.{inBatch, batchAt, firstOf}
 
 module _ (group : ℕ) (t : Timestamp) (p : Pending) (rest : List Pending) where

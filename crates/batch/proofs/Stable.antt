@@ -14,7 +14,7 @@ use Rattle.record.specs.declared.request.Request.{Request}
 use Rattle.rules.specs.Lists.{keep, some}
 use Rattle.rules.specs.Replica.{stamped, lowest, requestsOf, ofGroup, groupTimestamp, batchOf, earlier, earliest, isStable}
 use Rattle.rules.specs.declared.Pending.{Pending}
-use Rattle.laws.proofs.Lists.{case}
+use Rattle.question.proofs.Tests.{case}
 use Rattle.laws.proofs.Least.{lowest-start}
 use Rattle.batch.specs.Head.{join, headFrom, headIn, isLate, whereLate}
 use Rattle.batch.specs.declared.pending.Head.{Head}

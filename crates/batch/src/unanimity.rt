@@ -2,7 +2,8 @@
 ghost use mathlib.Core.Path.{_≡_};
 ghost use Prim.Native.Nat.{_≤_};
 ghost use mathlib.Core.Bool.{cond, _&&_};
-ghost use Rattle.rules.specs.Batch.{isWrite, sameWrite, allReads, unanimous};
+ghost use Rattle.record.specs.Kind.{isWrite, sameWrite};
+ghost use Rattle.rules.specs.Batch.{allReads, unanimous};
 ghost use Rattle.batch.specs.State.{waiting};
 ghost use Rattle.batch.specs.Head.{batchAt, firstOf};
 use crate::pending::in_batch;

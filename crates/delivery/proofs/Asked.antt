@@ -12,7 +12,7 @@ use Rattle.record.specs.declared.clock.LocalTime.{LocalTime}
 use Rattle.record.specs.declared.request.Request.{Request}
 use Rattle.rules.specs.Replica.{State, timeQuestions, admit}
 use Rattle.rules.specs.declared.Pending.{Pending}
-use Rattle.laws.proofs.Lists.{case}
+use Rattle.question.proofs.Tests.{case}
 use Rattle.question.proofs.Questions.{ask-next, ask-all-yes, ask-through}
 
 module _ (read : Answer Request) (questions rest : List Question) where

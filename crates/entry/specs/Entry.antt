@@ -8,7 +8,7 @@ use Rattle.question.specs.Question.{Question, _else_, Answer, given, refused, a
 use Rattle.record.specs.Layout.{field}
 use Rattle.record.specs.declared.clock.LocalTime.{LocalTime}
 use Rattle.rules.specs.Lists.{every}
-use Rattle.rules.specs.Batch.{Settings}
+use Rattle.rules.specs.declared.Settings.{Settings}
 use Rattle.rules.specs.Replica.{makeQuestions}
 use Rattle.entry.specs.declared.entry.EntryRead.{EntryRead}
 use Rattle.entry.specs.declared.entry.Setup.{Setup}

@@ -11,7 +11,7 @@ use Rattle.record.specs.Record.{requestQuestions, messageQuestions, readRequest
 use Rattle.record.specs.declared.clock.LocalTime.{LocalTime}
 use Rattle.record.specs.declared.message.Message.{Message}
 use Rattle.record.specs.declared.request.Request.{Request}
-use Rattle.rules.specs.Batch.{Settings}
+use Rattle.rules.specs.declared.Settings.{Settings}
 use Rattle.rules.specs.Replica.{State, make, admit, deliver, step}
 use Rattle.rules.specs.Vote.{counts, support, elect, vote, haltCount}
 use Rattle.rules.specs.declared.Query.{Query}

@@ -7,12 +7,13 @@ use mathlib.Core.List.{List, [], _∷_, _++_, List·Memᴰ, List·Memᴰ·head, 
 use native.Mathlib.Omega.{arith}
 use borrow.Author.Tests.{eqb-false}
 use Rattle.rules.specs.Lists.{keep}
-use Rattle.rules.specs.Batch.{Settings}
+use Rattle.rules.specs.declared.Settings.{Settings}
 use Rattle.rules.specs.Replica.{State, stamped, ofGroup, visits, atTime}
 use Rattle.rules.specs.Run.{Call, call, arrivalOf, arrivals}
 use Rattle.failstop.specs.Suppose.{firstArrival, ArrivalRule}
 use Rattle.rules.specs.declared.Pending.{Pending}
-use Rattle.laws.proofs.Lists.{case, keep-in, in-keep, keep-append}
+use Rattle.question.proofs.Tests.{case}
+use Rattle.laws.proofs.Lists.{keep-in, in-keep, keep-append}
 use Rattle.laws.proofs.Keeps.{visits-keep}
 use Rattle.laws.proofs.Accepted.{Made}
 use Rattle.laws.proofs.Sound.{Sound}
@@ -95,13 +96,13 @@ module _ (u : Settings) (me : ℕ) (ok : Made u me) where
           one : (p : Pending) → List·Memᴰ p (arrivalOf s c) → p ≡ new
           one p i = List·Memᴰ·eq-of-singleton (keep-in (ofGroup (u .owner)) (new ∷ []) (rw a at i) .0)
       go (steps now late e a) = record {
-        last = rw (e, visits-keep (u .groups) now (atTime s now) .last) late;
+        last = rw (e, visits-keep (u .groups) now (atTime now s) .last) late;
         late = λ p i. none a i;
         now = λ p i. none a i;
         rise = rw a tt;
         pending = λ p i.
-            let k = keep-in (ofGroup (u .owner)) (visits (u .groups) now (atTime s now) .state .pending) (rw e at i) in
-            inl (in-keep (ofGroup (u .owner)) (s .pending) (visits-keep (u .groups) now (atTime s now) .pending p (k .0)) (k .1));
+            let k = keep-in (ofGroup (u .owner)) (visits (u .groups) now (atTime now s) .state .pending) (rw e at i) in
+            inl (in-keep (ofGroup (u .owner)) (s .pending) (visits-keep (u .groups) now (atTime now s) .pending p (k .0)) (k .1));
       }
 
   pub arrivals-late : (calls : List Call) (s : State) → Sound u me s → AllLent calls → (p : Pending) → List·Memᴰ p (arrivals s calls)

@@ -11,12 +11,14 @@ use borrow.Author.Tests.{eqb-true, ltb-true, lt-ltb}
 use Rattle.question.specs.Question.{Answer, given, refused, isGiven}
 use Rattle.record.specs.declared.clock.LocalTime.{LocalTime}
 use Rattle.rules.specs.Lists.{every}
-use Rattle.rules.specs.Batch.{Settings, Effect}
+use Rattle.rules.specs.Batch.{Effect}
+use Rattle.rules.specs.declared.Settings.{Settings}
 use Rattle.rules.specs.Replica.{State, Stepped, stamped, ofGroup, groupTimestamp, batchOf, earliest, isStable, visits, atTime, step}
 use Rattle.rules.specs.Run.{Call, delivery, turn, call, run, arrivalOf, arrivals}
 use Rattle.failstop.specs.Suppose.{closesNow, closes}
 use Rattle.rules.specs.declared.Pending.{Pending}
-use Rattle.laws.proofs.Lists.{case, true-not-false, no-member, keep-in, in-keep, every-in}
+use Rattle.question.proofs.Tests.{case, true-not-false}
+use Rattle.laws.proofs.Lists.{no-member, keep-in, in-keep, every-in}
 use Rattle.laws.proofs.Least.{earliest-hit, batch-some}
 use Rattle.laws.proofs.Keeps.{visits-keep}
 use Rattle.laws.proofs.Settles.{visits-settle}
@@ -98,7 +100,7 @@ module _ (u : Settings) (me : ℕ) (ok : Made u me) where
             let same = call-step u me ok s now output (w .sound) f in
             let gone : mine u (call s c .state .pending) ≡ [] =
             ap (λ (x : Effect State). mine u (x .state .pending)) same
-            ∙ visits-empty now (atTime s now) (w .sound .settings) (λ p i. old p (w .pending p i)) in
+            ∙ visits-empty now (atTime now s) (w .sound .settings) (λ p i. old p (w .pending p i)) in
             no-member _ (λ p i. ⊎-elim
             (λ (j : List·Memᴰ p (mine u (call s c .state .pending))). List·Memᴰ·not-nil (subst (List·Memᴰ p) gone j))
             (λ (j : List·Memᴰ p (arrivals (call s c .state) calls)). omega (arith, old p (next .coming p j), after-step u me ok all s c calls w now same p j))

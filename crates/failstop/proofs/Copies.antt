@@ -10,7 +10,8 @@ use lib.Dec.{eqb}
 use borrow.Author.Tests.{eqb-true, eq-eqb, not-true}
 use Rattle.record.specs.declared.request.Request.{Request}
 use Rattle.record.specs.declared.message.Message.{Message}
-use Rattle.rules.specs.Batch.{Settings, Store, Effect}
+use Rattle.rules.specs.Batch.{Store, Effect}
+use Rattle.rules.specs.declared.Settings.{Settings}
 use Rattle.rules.specs.Replica.{State, newState, requestsOf, ofGroup}
 use Rattle.rules.specs.Run.{Call, delivery, turn, call, run, arrivalOf, arrivals}
 use Rattle.rules.specs.Machine.{machine, signedBy}

@@ -4,7 +4,8 @@ use Prim.Native.Nat.{ℕ}
 use mathlib.Core.Path.{_≡_, sym, _∙_, ap, subst}
 use mathlib.Core.Logic.{inl, inr, ⊎-elim}
 use mathlib.Core.List.{List, [], List·Memᴰ, List·Memᴰ·not-nil, append-nil}
-use Rattle.rules.specs.Batch.{Settings, Effect}
+use Rattle.rules.specs.Batch.{Effect}
+use Rattle.rules.specs.declared.Settings.{Settings}
 use Rattle.rules.specs.Replica.{State, newState, requestsOf}
 use Rattle.rules.specs.Run.{Call, run, arrivals}
 use Rattle.rules.specs.Machine.{machine}

@@ -9,11 +9,13 @@ use native.Mathlib.Omega.{arith}
 use lib.Dec.{leb}
 use borrow.Author.Tests.{leb-true, leb-false}
 use Rattle.record.specs.declared.clock.LocalTime.{LocalTime}
-use Rattle.rules.specs.Batch.{Settings, Effect}
+use Rattle.rules.specs.Batch.{Effect}
+use Rattle.rules.specs.declared.Settings.{Settings}
 use Rattle.rules.specs.Replica.{State, requestsOf, ofGroup, visits, atTime}
 use Rattle.rules.specs.Run.{Call, call, run, arrivalOf, arrivals}
 use Rattle.rules.specs.declared.Pending.{Pending}
-use Rattle.laws.proofs.Lists.{case, keep-append, map-in}
+use Rattle.question.proofs.Tests.{case}
+use Rattle.laws.proofs.Lists.{keep-append, map-in}
 use Rattle.laws.proofs.Keeps.{visits-keep}
 use Rattle.laws.proofs.Accepted.{Made}
 use Rattle.laws.proofs.Sound.{Sound}
@@ -50,12 +52,12 @@ module _ (u : Settings) (me : ℕ) (ok : Made u me) (all : List Pending) where
 
   -- what is still to arrive after a step arrives no earlier than it
   pub after-step : (s : State) (c : Call) (calls : List Call) → Underway u me all s (c ∷ calls)
-      → (now : LocalTime) → call s c ≡ visits (u .groups) now (atTime s now)
+      → (now : LocalTime) → call s c ≡ visits (u .groups) now (atTime now s)
       → (p : Pending) → List·Memᴰ p (arrivals (call s c .state) calls) → now .0 ≤ p .arrival .0
   after-step s c calls w now e p i =
       let next = underway-next s c calls w in
       let last : call s c .state .last .0 ≡ now .0 =
-      ap (λ (x : Effect State). x .state .last .0) e ∙ ap (λ (x : LocalTime). x .0) (visits-keep (u .groups) now (atTime s now) .last) in
+      ap (λ (x : Effect State). x .state .last .0) e ∙ ap (λ (x : LocalTime). x .0) (visits-keep (u .groups) now (atTime now s) .last) in
       omega (arith, arrivals-late u me ok calls (call s c .state) (next .sound) (next .lent) p i)
 
   -- ── one call ──
@@ -66,7 +68,7 @@ module _ (u : Settings) (me : ℕ) (ok : Made u me) (all : List Pending) where
       ≡ ahead (toGroup (u .owner) (call s c .sent)) (expected u me (requestsOf (mine u (call s c .state .pending) ++ coming)) (call s c .state .store))
 
   call-matched : (s : State) (c : Call) (coming : List Pending) → Sound u me s → LentTo c
-      → ((now : LocalTime) → call s c ≡ visits (u .groups) now (atTime s now) → Apart u now (requestsOf coming) (s .pending))
+      → ((now : LocalTime) → call s c ≡ visits (u .groups) now (atTime now s) → Apart u now (requestsOf coming) (s .pending))
       → CallMatched s c coming
   call-matched s c coming h lent apart = go (call-act u me ok s c h lent)
     where
@@ -76,17 +78,17 @@ module _ (u : Settings) (me : ℕ) (ok : Made u me) (all : List Pending) where
           let new : List Pending = record { request = r; arrival = now } ∷ [] in
           rw (e, a, keep-append (ofGroup (u .owner)) (s .pending) new, ← append-assoc (mine u (s .pending)) (mine u new) coming)
       go (steps now late e a) =
-          let left = visits (u .groups) now (atTime s now) .state .pending in
-          let ready : Ready u me now (requestsOf coming) (atTime s now) = record { settings = h .settings; number = h .number; apart = apart now e } in
+          let left = visits (u .groups) now (atTime now s) .state .pending in
+          let ready : Ready u me now (requestsOf coming) (atTime now s) = record { settings = h .settings; number = h .number; apart = apart now e } in
           rw (e, a, requests-append (mine u (s .pending)) coming, requests-append (mine u left) coming)
-          (visits-simulate u me now (requestsOf coming) (u .groups) (atTime s now) ready .1)
+          (visits-simulate u me now (requestsOf coming) (u .groups) (atTime now s) ready .1)
 
   -- ── a run ──
 
   module _ (rule : LooseRule (u .delta) all) where
     -- none of it belongs before what was stable in the step
     step-apart : (s : State) (c : Call) (calls : List Call) → Underway u me all s (c ∷ calls)
-        → (now : LocalTime) → call s c ≡ visits (u .groups) now (atTime s now)
+        → (now : LocalTime) → call s c ≡ visits (u .groups) now (atTime now s)
         → Apart u now (requestsOf (arrivals (call s c .state) calls)) (s .pending)
     step-apart s c calls w now e p i old r j =
         case (leb (r .timestamp .0) (p .request .timestamp .0)) early (leb-false (r .timestamp .0) (p .request .timestamp .0))

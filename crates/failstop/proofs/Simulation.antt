@@ -12,11 +12,13 @@ use Rattle.record.specs.declared.clock.LocalTime.{LocalTime}
 use Rattle.record.specs.declared.request.Request.{Request}
 use Rattle.record.specs.declared.message.Message.{Message}
 use Rattle.rules.specs.Lists.{keep, upTo}
-use Rattle.rules.specs.Batch.{Settings, Store, Effect, follow, failed, allReads, unanimous, replyTo, haltTo, handle}
+use Rattle.rules.specs.Batch.{Store, Effect, follow, failed, allReads, unanimous, replyTo, haltTo, handle}
+use Rattle.rules.specs.declared.Settings.{Settings}
 use Rattle.rules.specs.Replica.{State, stamped, requestsOf, ofGroup, groupTimestamp, batchOf, others, isStable, handleBatch, visits}
 use Rattle.rules.specs.Machine.{nobody, react, signedBy}
 use Rattle.rules.specs.declared.Pending.{Pending}
-use Rattle.laws.proofs.Lists.{case, keep-in, in-keep, keep-none, keep-all, keep-append, map-keep, map-in}
+use Rattle.question.proofs.Tests.{case}
+use Rattle.laws.proofs.Lists.{keep-in, in-keep, keep-none, keep-all, keep-append, map-keep, map-in}
 use Rattle.laws.proofs.Least.{stable-hit, batchAt-in, others-other}
 use Rattle.laws.proofs.Visits.{visits-all}
 use Rattle.laws.proofs.Keeps.{Keeps, batch-keeps}

@@ -8,12 +8,13 @@ use lib.Dec.{eqb, ltb}
 use lib.ListN.{length}
 use Rattle.question.specs.Question.{given}
 use Rattle.record.specs.Number.{Bytes}
-use Rattle.record.specs.Record.{halt}
+use Rattle.record.specs.Kind.{halt}
 use Rattle.record.specs.declared.clock.Timestamp.{Timestamp}
 use Rattle.record.specs.declared.request.Request.{Request}
 use Rattle.record.specs.declared.message.Message.{Message}
 use Rattle.rules.specs.Lists.{keep, some}
-use Rattle.rules.specs.Batch.{Settings, valueOf, failed, allReads, replyWith}
+use Rattle.rules.specs.Batch.{valueOf, failed, allReads, replyWith}
+use Rattle.rules.specs.declared.Settings.{Settings}
 use Rattle.rules.specs.Replica.{make, newState, stamped, requestsOf}
 use Rattle.rules.specs.Run.{Call, delivery, run}
 use Rattle.rules.specs.Machine.{machine, signedBy}

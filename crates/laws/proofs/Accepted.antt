@@ -1,27 +1,30 @@
--- What making and reading accept, as bounds: the settings and the number of a replica, and a request that came in bytes.
+-- What the calls accept, by name: the settings and the number of a replica, a request that came in bytes, a delivery, a step.
 use Prim.Native.Nat.{ℕ, _+_, _*_, _^_, _≤_, _<_}
-use mathlib.Core.Path.{_≡_, sym, _∙_, subst}
-use mathlib.Core.Bool.{Bool, true, false, cond}
-use mathlib.Core.List.{List}
+use mathlib.Core.Path.{_≡_, ap, _∙_, subst}
+use mathlib.Core.Bool.{true}
+use mathlib.Core.List.{List, [], _∷_}
 use native.Mathlib.Omega.{arith}
-use lib.Dec.{eqb, leb}
+use lib.Dec.{leb}
 use lib.ListN.{length, take, drop, length-take, length-drop, List·getD-eq-default}
 use lib.Seq.{getD-take, getD-drop, length-take-le}
-use borrow.Author.Tests.{leb-true, leb-false, le-leb}
-use Rattle.question.specs.Question.{given, within, unitQuestions}
+use borrow.Author.Tests.{eqb-true, leb-true, leb-false, ltb-true}
+use Rattle.limits.specs.Limits.{maxDelta, places, outputSize}
+use Rattle.question.specs.Question.{_else_, given, ask, within, unitQuestions}
 use Rattle.record.specs.Number.{Bytes, number as says}
 use Rattle.record.specs.Layout.{fieldsOf}
-use Rattle.record.specs.Record.{write, halt, requestQuestions, requestIn, readRequest}
+use Rattle.record.specs.Kind.{write, isWrite}
+use Rattle.record.specs.Record.{requestIn, readFields, readRequest}
+use Rattle.record.specs.declared.kind.Family.the-variants.{Requests}
+use Rattle.record.specs.declared.clock.LocalTime.{LocalTime}
+use Rattle.record.specs.declared.fields.Fields.{Fields}
 use Rattle.record.specs.declared.request.Request.{Request}
-use Rattle.question.proofs.Questions.{AllYes, ask-all-yes, same-given, within-true}
+use Rattle.question.proofs.Questions.{AllYes, all-yes-parts, ask-all-yes, ask-through, bind-given, same-given}
 use Rattle.record.proofs.Numbers.{number-below}
-use Rattle.record.proofs.Record.{read-given, read-readable}
-use Rattle.rules.specs.Batch.{Settings, isWrite}
-use Rattle.rules.specs.Replica.{State, newState, make, makeQuestions}
-use Rattle.laws.proofs.Lists.{case}
-
-pub in-within : (low high x : ℕ) → low ≤ x → x ≤ high → within low high x ≡ true
-in-within low high x h k = rw (le-leb low x h, le-leb x high k)
+use Rattle.record.proofs.Facts.{variable-small, write-variable}
+use Rattle.record.proofs.Reading.{read-readable, read-is}
+use Rattle.rules.specs.declared.Settings.{Settings}
+use Rattle.rules.specs.Replica.{State, newState, make, settingsQuestions, makeQuestions, placeQuestions, admit, Stepped, stepped, stepQuestions, step}
+use Rattle.question.proofs.Tests.{case, within-true, unit-facts}
 
 -- ── accepted settings ──
 
@@ -34,18 +37,22 @@ pub record Made (u : Settings) (number : ℕ) : Type 0 where
   pub number-high : number ≤ 2 * u .k + 1
 
 pub make-made : (u : Settings) (number : ℕ) {s : State} → make u number ≡ given s → Made u number
-unfolding make unitQuestions
+unfolding make
 make-made u number e =
-    let yes = ask-all-yes (makeQuestions u number) (given (newState u number)) e in
-    let owner = within-true 1 (u .groups) (u .owner) (yes .1 .1 .0) in
-    let own = within-true 1 (2 * u .k + 1) number (yes .1 .1 .1 .1 .0) in
+    let own = (within 1 (2 * u .k + 1) number else 5) ∷ [] in
+    let rest = (within 1 (u .groups) (u .owner) else 3) ∷ (leb (u .delta) maxDelta else 4) ∷ [] in
+    let all = ask-all-yes (makeQuestions u number) (given (newState u number)) e in
+    let made = all-yes-parts (settingsQuestions u) own all in
+    let settings = all-yes-parts (unitQuestions (u .k) (u .groups)) rest (made .0) in
+    let owner = within-true 1 (u .groups) (u .owner) (settings .1 .0) in
+    let number-in = within-true 1 (2 * u .k + 1) number (made .1 .0) in
     record {
-      unit = (yes .0, (yes .1 .0, tt));
-      k = within-true 0 3 (u .k) (yes .0) .1;
+      unit = settings .0;
+      k = unit-facts (u .k) (u .groups) (settings .0) .k-high;
       owner-low = owner .0;
       owner-high = owner .1;
-      number-low = own .0;
-      number-high = own .1;
+      number-low = number-in .0;
+      number-high = number-in .1;
     }
 
 -- ── accepted requests ──
@@ -74,27 +81,61 @@ part-below bytes h at width fits =
     let long : length (take width (drop at bytes)) ≡ width = length-take-le width (drop at bytes) (rw length-drop (omega arith)) in
     rw long at (number-below (take width (drop at bytes)) (bytes-part bytes h at width))
 
-variable-high : (variable : ℕ) (b : Bool) → variable ≤ cond b 0 255 → variable ≤ 255
-variable-high variable true h = omega arith
-variable-high variable false h = h
-
 pub read-proper : (k n : ℕ) (bytes : List ℕ) {r : Request} → Bytes bytes → readRequest k n bytes ≡ given r → Proper k n r
-unfolding requestQuestions fieldsOf
+unfolding fieldsOf
 read-proper k n bytes h e =
+    let read = bind-given (readFields Requests k n bytes) (λ f. given (requestIn f)) e in
     let f = fieldsOf bytes in
-    let asked = read-readable k n (requestQuestions k n) requestIn bytes e in
-    let yes = asked .fields in
+    let asked = read-readable Requests k n bytes (read .1) in
     let long = asked .long in
-    let group = within-true 1 n (f .group) (yes .1 .0) in
-    let process = within-true 1 (k + 1) (f .process) (yes .1 .1 .0) in
-    let variable = within-true (cond (eqb (f .kind) write) 1 0) (cond (eqb (f .kind) halt) 0 255) (f .variable) (yes .1 .1 .1 .0) in
-    subst (Proper k n) (same-given (sym (read-given k n (requestQuestions k n) requestIn asked) ∙ e)) (record {
+    let group = within-true 1 n (f .group) (asked .fields .group) in
+    let process = within-true 1 (k + 1) (f .process) (asked .fields .process) in
+    subst (Proper k n) (ap requestIn (read-is Requests k n bytes (read .1)) ∙ same-given (read .2)) (record {
       group-low = group .0;
       group-high = group .1;
       process-low = process .0;
       process-high = process .1;
-      variable = variable-high (f .variable) (eqb (f .kind) halt) (variable .1);
-      written = λ w. rw w at (variable .0);
+      variable = variable-small (asked .fields);
+      written = λ w. write-variable (asked .fields) (eqb-true (f .kind) write w);
       timestamp = part-below bytes h 8 8 (omega arith);
       value = part-below bytes h 16 4 (omega arith);
     })
+
+-- whatever it came in, an accepted request is of a process within 1 to k + 1
+pub read-process : (k n : ℕ) (bytes : List ℕ) {r : Request} → readRequest k n bytes ≡ given r → (1 ≤ r .process) × (r .process ≤ k + 1)
+read-process k n bytes e =
+    let read = bind-given (readFields Requests k n bytes) (λ f. given (requestIn f)) e in
+    let facts = read-readable Requests k n bytes (read .1) .fields in
+    let same = ap (λ (f : Fields). f .process) (read-is Requests k n bytes (read .1)) ∙ ap (λ (r : Request). r .process) (same-given (read .2)) in
+    rw same at (within-true 1 (k + 1) (fieldsOf bytes .process) (facts .process))
+
+-- ── accepted calls ──
+
+-- what an accepted delivery was asked, beside the record
+pub record Admitted (s : State) (bytes : List ℕ) (now : LocalTime) (r : Request) : Type 0 where
+  pub reads : readRequest (s .settings .k) (s .settings .groups) bytes ≡ given r
+  pub late : s .last .0 ≤ now .0
+  pub room : length (s .pending) < places
+
+pub admit-admitted : (s : State) (bytes : List ℕ) (now : LocalTime) {r : Request} → admit s bytes now ≡ given r → Admitted s bytes now r
+unfolding admit
+admit-admitted s bytes now e =
+    let questions = placeQuestions (s .last) (length (s .pending)) now in
+    let read = bind-given (readRequest (s .settings .k) (s .settings .groups) bytes) (λ q. ask questions (given q)) e in
+    let all = ask-all-yes questions (given (read .0)) (read .2) in
+    record {
+      reads = read .1 ∙ ask-through questions (given (read .0)) (read .2);
+      late = leb-true (s .last .0) (now .0) (all .1 .0);
+      room = ltb-true (length (s .pending)) places (all .1 .1 .0);
+    }
+
+module _ (s : State) (now : LocalTime) (output : List ℕ) {d : Stepped} (e : step s now output ≡ given d) where
+  step-asked : AllYes (stepQuestions (s .last) now (length output))
+  unfolding step
+  step-asked = ask-all-yes (stepQuestions (s .last) now (length output)) (given (stepped s now output)) e
+
+  pub step-late : s .last .0 ≤ now .0
+  step-late = leb-true (s .last .0) (now .0) (step-asked .1 .0)
+
+  pub step-room : outputSize ≤ length output
+  step-room = leb-true outputSize (length output) (step-asked .1 .1 .0)

@@ -8,6 +8,7 @@ use native.Mathlib.Omega.{arith}
 use lib.Dec.{leb, ltb}
 use lib.ListN.{length, length-append}
 use borrow.Author.Tests.{leb-true, ltb-true}
+use Rattle.limits.specs.Limits.{places}
 use Rattle.question.specs.Question.{_else_, Answer, given, refused, ask, bind, unitQuestions}
 use Rattle.record.specs.Number.{Bytes}
 use Rattle.record.specs.Record.{readRequest}
@@ -15,50 +16,15 @@ use Rattle.record.specs.declared.clock.LocalTime.{LocalTime}
 use Rattle.record.specs.declared.request.Request.{Request}
 use Rattle.question.proofs.Questions.{AllYes, ask-all-yes, ask-through}
 use Rattle.rules.specs.Lists.{keep}
-use Rattle.rules.specs.Batch.{Settings, still}
+use Rattle.rules.specs.Batch.{still}
+use Rattle.rules.specs.declared.Settings.{Settings}
 use Rattle.rules.specs.Replica.{State, Stepped, timeQuestions, admit, arrive, deliver, ofGroup, visits, atTime, stepped, step}
 use Rattle.rules.specs.Run.{Call, delivery, turn, call, run, arrivalOf}
 use Rattle.rules.specs.declared.Pending.{Pending}
 use Rattle.laws.proofs.Step.{step-accepted, step-at-most-67}
 use Rattle.laws.proofs.Records.{AllSendable, read-written-messages}
-use Rattle.laws.proofs.Accepted.{Made, Proper, read-proper}
+use Rattle.laws.proofs.Accepted.{Made, Proper, read-proper, admit-admitted, step-late, step-room}
 use Rattle.laws.proofs.Sound.{Sound, visits-soundly}
-
--- ── what is admitted ──
-
-bind-given : {A B : Type 0} (a : Answer A) (f : A → Answer B) {b : B} → bind a f ≡ given b → (x : A) × (a ≡ given x) × (f x ≡ given b)
-bind-given (given x) f e = (x, refl, e)
-bind-given (refused number) f e = absurd (let z : _≡_ {A = ℕ} 0 1 = cc in omega arith)
-
-record Admitted (s : State) (bytes : List ℕ) (now : LocalTime) (r : Request) : Type 0 where
-  reads : readRequest (s .settings .k) (s .settings .groups) bytes ≡ given r
-  late : s .last .0 ≤ now .0
-  room : length (s .pending) < 64
-
-admit-admitted : (s : State) (bytes : List ℕ) (now : LocalTime) {r : Request} → admit s bytes now ≡ given r → Admitted s bytes now r
-unfolding admit
-admit-admitted s bytes now {r} e =
-    let place : Request → Answer Request = λ q. ask ((ltb (length (s .pending)) 64 else 14) ∷ []) (given q) in
-    let a = bind-given (readRequest (s .settings .k) (s .settings .groups) bytes) (λ q. ask (timeQuestions (s .last) now) (place q)) e in
-    let times = ask-all-yes (timeQuestions (s .last) now) (place (a .0)) (a .2) in
-    let b = ask-through (timeQuestions (s .last) now) (place (a .0)) (a .2) in
-    let places = ask-all-yes ((ltb (length (s .pending)) 64 else 14) ∷ []) (given (a .0)) b in
-    let c = ask-through ((ltb (length (s .pending)) 64 else 14) ∷ []) (given (a .0)) b in
-    let same : a .0 ≡ r = cc in
-    record {
-      reads = a .1 ∙ ap given same;
-      late = leb-true (s .last .0) (now .0) (times .1 .0);
-      room = ltb-true (length (s .pending)) 64 (places .0);
-    }
-
-step-late : (s : State) (now : LocalTime) (output : List ℕ) {d : Stepped} → step s now output ≡ given d
-    → (s .last .0 ≤ now .0) × (1608 ≤ length output)
-unfolding step
-step-late s now output e =
-    let rest = ask ((leb 1608 (length output) else 15) ∷ []) (given (stepped s now output)) in
-    let times = ask-all-yes (timeQuestions (s .last) now) rest e in
-    let rooms = ask-all-yes ((leb 1608 (length output) else 15) ∷ []) (given (stepped s now output)) (ask-through (timeQuestions (s .last) now) rest e) in
-    (leb-true (s .last .0) (now .0) (times .1 .0), leb-true 1608 (length output) (rooms .0))
 
 -- ── the three things ──
 
@@ -73,31 +39,31 @@ AllLent calls = (c : Call) → List·Memᴰ c calls → LentTo c
 -- a call that is refused, a delivery that is accepted, a step that is
 pub data Act (u : Settings) (s : State) (c : Call) : Type 0 where
   nothing : call s c ≡ still s → arrivalOf s c ≡ [] → Act u s c
-  arrives : (r : Request) (now : LocalTime) → Proper (u .k) (u .groups) r → s .last .0 ≤ now .0 → length (s .pending) < 64
+  arrives : (r : Request) (now : LocalTime) → Proper (u .k) (u .groups) r → s .last .0 ≤ now .0 → length (s .pending) < places
       → call s c ≡ still (arrive s r now) → arrivalOf s c ≡ keep (ofGroup (u .owner)) (record { request = r; arrival = now } ∷ []) → Act u s c
-  steps : (now : LocalTime) → s .last .0 ≤ now .0 → call s c ≡ visits (u .groups) now (atTime s now) → arrivalOf s c ≡ [] → Act u s c
+  steps : (now : LocalTime) → s .last .0 ≤ now .0 → call s c ≡ visits (u .groups) now (atTime now s) → arrivalOf s c ≡ [] → Act u s c
 
 module _ (u : Settings) (me : ℕ) (ok : Made u me) where
-  at-sound : (s : State) (now : LocalTime) → Sound u me s → Sound u me (atTime s now)
+  at-sound : (s : State) (now : LocalTime) → Sound u me s → Sound u me (atTime now s)
   at-sound s now h = record { settings = h .settings; number = h .number; pending = h .pending; few = h .few; store = h .store }
 
   -- an accepted step as a call: the messages whose records it wrote are those that its visits send
   pub call-step : (s : State) (now : LocalTime) (output : List ℕ) {d : Stepped} → Sound u me s → step s now output ≡ given d
-      → call s (turn now output) ≡ visits (u .groups) now (atTime s now)
+      → call s (turn now output) ≡ visits (u .groups) now (atTime now s)
   unfolding call stepped
   call-step s now output h e =
       let v = s .settings in
-      let done = visits (v .groups) now (atTime s now) in
+      let done = visits (v .groups) now (atTime now s) in
       let same = step-accepted s now output e in
       let most = step-at-most-67 s now output e (rw (h .settings) (ok .k)) (h .few) (omega (arith, h .store .variables)) in
       let count : length (done .sent) ≤ 67 = rw same at most in
       let unit = subst (λ (x : Settings). AllYes (unitQuestions (x .k) (x .groups))) (sym (h .settings)) (ok .unit) in
       let sendable =
       subst (λ (x : Settings). AllSendable (x .k) (x .groups) (done .sent)) (sym (h .settings))
-      (visits-soundly u me ok (v .groups) now (atTime s now) (at-sound s now h) .1) in
-      let back = read-written-messages (v .k) (v .groups) unit (done .sent) output sendable (omega (arith, step-late s now output e .1)) in
+      (visits-soundly u me ok (v .groups) now (atTime now s) (at-sound s now h) .1) in
+      let back = read-written-messages (v .k) (v .groups) unit (done .sent) output sendable (omega (arith, step-room s now output e)) in
       rw (e, same) (ap (λ messages. record { state = done .state; sent = messages }) back)
-      ∙ ap (λ (x : Settings). visits (x .groups) now (atTime s now)) (h .settings)
+      ∙ ap (λ (x : Settings). visits (x .groups) now (atTime now s)) (h .settings)
 
   pub call-act : (s : State) (c : Call) → Sound u me s → LentTo c → Act u s c
   unfolding call deliver
@@ -112,7 +78,7 @@ module _ (u : Settings) (me : ℕ) (ok : Made u me) where
     where
       go : (a : Answer Stepped) → step s now output ≡ a → Act u s (turn now output)
       go (refused number) e = nothing (rw e) refl
-      go (given d) e = steps now (step-late s now output e .0) (call-step s now output h e) refl
+      go (given d) e = steps now (step-late s now output e) (call-step s now output h e) refl
 
   -- each keeps the state sound
   pub call-sound : (s : State) (c : Call) → Sound u me s → LentTo c → Sound u me (call s c .state)
@@ -129,7 +95,7 @@ module _ (u : Settings) (me : ℕ) (ok : Made u me) where
         few = omega (arith, length-append (s .pending) (record { request = r; arrival = now } ∷ []));
         store = h .store;
       })
-      go (steps now late e a) = rw e (visits-soundly u me ok (u .groups) now (atTime s now) (at-sound s now h) .0)
+      go (steps now late e a) = rw e (visits-soundly u me ok (u .groups) now (atTime now s) (at-sound s now h) .0)
 
   -- so every state of a run is sound
   pub run-sound : (calls : List Call) (s : State) → Sound u me s → AllLent calls → Sound u me (run s calls .state)

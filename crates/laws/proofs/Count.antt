@@ -12,11 +12,14 @@ use Rattle.record.specs.declared.clock.Timestamp.{Timestamp}
 use Rattle.record.specs.declared.clock.LocalTime.{LocalTime}
 use Rattle.record.specs.declared.request.Request.{Request}
 use Rattle.rules.specs.Lists.{upTo}
-use Rattle.rules.specs.Batch.{Settings, Store, Effect, still, follow, failed, perform, fail, allReads, unanimous, replyTo, haltTo, haltAll, handle}
+use Rattle.rules.specs.Batch.{firstOf, Store, Effect, still, follow, failed, perform, fail, allReads, unanimous, replyTo, haltTo, haltAll, handle}
+use Rattle.rules.specs.declared.Settings.{Settings}
 use Rattle.rules.specs.Replica.{State, requestsOf, groupTimestamp, batchOf, isStable, handleBatch, visits}
 use Rattle.rules.specs.declared.Pending.{Pending}
-use Rattle.laws.proofs.Lists.{case, length-upTo}
+use Rattle.question.proofs.Tests.{case}
+use Rattle.laws.proofs.Lists.{length-upTo}
 use Rattle.laws.proofs.Least.{stable-some, others-batch}
+use Rattle.laws.proofs.Verdict.{Handled, answered, performed, failing, passed, handle-view}
 use Rattle.laws.proofs.Visits.{visits-all}
 use Rattle.laws.proofs.Keeps.{Keeps, keeps-same, keeps-then, batch-keeps}
 
@@ -30,22 +33,16 @@ spare-le k s = case (failed s) (λ e. rw e (omega arith)) (λ e. rw e (omega ari
 -- a batch costs no more messages than it has requests, and k more where the store fails
 handle-cost : (u : Settings) (replica group : ℕ) (t : Timestamp) (batch : List Request) (s : Store) → 0 < length batch → 0 < length (s .variables)
     → length (handle u replica group t batch s .sent) + spare (u .k) (handle u replica group t batch s .state) ≤ length batch + spare (u .k) s
-unfolding handle
-handle-cost u replica group t batch s filled room =
-    case (allReads batch) (λ a. rw a (omega (arith, length-map batch (replyTo s replica))))
-    (λ a. case (unanimous (u .k) batch && eqb group (u .owner) && not (failed s))
-    (λ b. rw (a, b) (performed (not-true (failed s) (and-eq-true-iff (unanimous (u .k) batch && eqb group (u .owner)) (not (failed s)) .0 b .1))))
-    (λ b. case (eqb group (u .owner) && not (failed s))
-    (λ c. rw (a, b, c) (failing (not-true (failed s) (and-eq-true-iff (eqb group (u .owner)) (not (failed s)) .0 c .1))))
-    (λ c. rw (a, b, c) (omega arith))))
+handle-cost u replica group t batch s filled room = go (handle-view u replica group t batch s)
   where
-    performed : failed s ≡ false → 0 + spare (u .k) (perform batch s) ≤ length batch + spare (u .k) s
-    performed e = rw e (omega (arith, spare-le (u .k) (perform batch s)))
-
-    failing : failed s ≡ false → length (haltAll (u .k) group replica t) + spare (u .k) (fail s) ≤ length batch + spare (u .k) s
-    failing e =
-        let f : failed (fail s) ≡ true = eq-eqb (getD (set (s .variables) 0 1) 0 0) 1 (getD-set-same (s .variables) 0 1 0 room) in
-        rw (e, f) (omega (arith, length-map (upTo (u .k + 1)) (haltTo group replica t), length-upTo (u .k + 1)))
+    go : {e : Effect Store} → Handled (u .k) (u .owner) replica group t batch s e
+        → length (e .sent) + spare (u .k) (e .state) ≤ length batch + spare (u .k) s
+    go (answered a) = omega (arith, length-map batch (replyTo s replica))
+    go (performed a o f) = rw f (omega (arith, spare-le (u .k) (perform (firstOf batch) s)))
+    go (failing o f) =
+        let g : failed (fail s) ≡ true = eq-eqb (getD (set (s .variables) 0 1) 0 0) 1 (getD-set-same (s .variables) 0 1 0 room) in
+        rw (f, g) (omega (arith, length-map (upTo (u .k + 1)) (haltTo group replica t), length-upTo (u .k + 1)))
+    go passed = omega arith
 
 -- the messages and what is still pending cost no more than what was pending
 record Bill (s : State) (e : Effect State) : Type 0 where

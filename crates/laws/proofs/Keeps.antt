@@ -9,11 +9,13 @@ use lib.ListN.{length, length-set}
 use Rattle.record.specs.declared.clock.Timestamp.{Timestamp}
 use Rattle.record.specs.declared.clock.LocalTime.{LocalTime}
 use Rattle.record.specs.declared.request.Request.{Request}
-use Rattle.rules.specs.Batch.{Settings, Store, failed, perform, allReads, unanimous, handle}
+use Rattle.rules.specs.Batch.{Store, failed, perform, allReads, unanimous, handle}
+use Rattle.rules.specs.declared.Settings.{Settings}
 use Rattle.rules.specs.Replica.{State, requestsOf, groupTimestamp, batchOf, handleBatch, visits}
 use Rattle.rules.specs.declared.Pending.{Pending}
-use Rattle.laws.proofs.Lists.{case}
+use Rattle.question.proofs.Tests.{case}
 use Rattle.laws.proofs.Least.{others-in, others-batch}
+use Rattle.laws.proofs.Verdict.{handle-view, handled-variables}
 use Rattle.laws.proofs.Visits.{visits-all}
 
 -- t is s, but for the variables' values, the writes performed, and requests that are no longer pending
@@ -25,18 +27,10 @@ pub record Keeps (s t : State) : Type 0 where
   pub fewer : length (t .pending) ≤ length (s .pending)
   pub variables : length (t .store .variables) ≡ length (s .store .variables)
 
-perform-variables : (batch : List Request) (s : Store) → length (perform batch s .variables) ≡ length (s .variables)
-perform-variables [] s = refl
-perform-variables (r ∷ batch) s = length-set (s .variables) (r .variable) (r .value)
-
 -- handling a batch neither adds nor drops a variable
 pub handle-variables : (u : Settings) (replica group : ℕ) (t : Timestamp) (batch : List Request) (s : Store)
     → length (handle u replica group t batch s .state .variables) ≡ length (s .variables)
-unfolding handle
-handle-variables u replica group t batch s =
-    case (allReads batch) (λ a. rw a)
-    (λ a. case (unanimous (u .k) batch && eqb group (u .owner) && not (failed s)) (λ b. rw (a, b) (perform-variables batch s))
-    (λ b. case (eqb group (u .owner) && not (failed s)) (λ c. rw (a, b, c) (length-set (s .variables) 0 1)) (λ c. rw (a, b, c))))
+handle-variables u replica group t batch s = handled-variables (u .k) (u .owner) replica group t batch s (handle-view u replica group t batch s)
 
 pub keeps-same : (s : State) → Keeps s s
 keeps-same s = record { settings = refl; number = refl; last = refl; pending = λ p i. i; fewer = omega arith; variables = refl }

@@ -12,9 +12,10 @@ use Rattle.record.specs.declared.clock.Timestamp.{Timestamp}
 use Rattle.record.specs.declared.clock.LocalTime.{LocalTime}
 use Rattle.record.specs.declared.request.Request.{Request}
 use Rattle.rules.specs.Lists.{keep}
-use Rattle.rules.specs.Replica.{stamped, lowest, least, requestsOf, ofGroup, groupTimestamp, batchOf, others, earliest, isStable}
+use Rattle.rules.specs.Replica.{stamped, lowest, least, requestsOf, ofGroup, groupTimestamp, batchOf, others, earliest, isStable, inBatch, batchAt}
 use Rattle.rules.specs.declared.Pending.{Pending}
-use Rattle.laws.proofs.Lists.{case, true-not-false, keep-in, in-keep, keep-none, keep-parts, keep-both, keep-keep, in-length, map-in}
+use Rattle.question.proofs.Tests.{case, true-not-false, both}
+use Rattle.laws.proofs.Lists.{keep-in, in-keep, keep-none, keep-parts, keep-both, keep-keep, in-length, map-in}
 
 -- ── the least of some numbers ──
 
@@ -97,15 +98,15 @@ stable-some delta now l e = in-length l (stable-hit delta now l e .1)
 
 -- ── the pending requests of a group with a timestamp ──
 
-abbrev pub batchAt : ℕ → Timestamp → List Pending → List Pending
-batchAt group t pending = keep (λ p. stamped t (p .request)) (keep (ofGroup group) pending)
-
 pub batchAt-in : (group : ℕ) (t : Timestamp) (pending : List Pending) {p : Pending} → List·Memᴰ p (batchAt group t pending)
     → List·Memᴰ p pending × (p .request .group ≡ group) × (p .request .timestamp .0 ≡ t .0)
 batchAt-in group t pending {p} m =
-    let a = keep-in (λ q. stamped t (q .request)) (keep (ofGroup group) pending) m in
-    let b = keep-in (ofGroup group) pending (a .0) in
-    (b .0, eqb-true (p .request .group) group (b .1), eqb-true (p .request .timestamp .0) (t .0) (a .1))
+    let a = keep-in (inBatch group t) pending m in
+    let b = both (ofGroup group p) (stamped t (p .request)) (a .1) in
+    (a .0, eqb-true (p .request .group) group (b .0), eqb-true (p .request .timestamp .0) (t .0) (b .1))
+
+in-batch : (group : ℕ) (t : Timestamp) (p : Pending) → p .request .group ≡ group → p .request .timestamp .0 ≡ t .0 → inBatch group t p ≡ true
+in-batch group t p e f = rw (eq-eqb (p .request .group) group e, eq-eqb (p .request .timestamp .0) (t .0) f)
 
 module _ (group : ℕ) (pending : List Pending) where
   request-in : (p : Pending) → List·Memᴰ p pending → p .request .group ≡ group → List·Memᴰ (p .request) (requestsOf (keep (ofGroup group) pending))
@@ -119,14 +120,16 @@ module _ (group : ℕ) (pending : List Pending) where
       let a = least-hit (requestsOf mine) (request-in p m e) in
       let b = map-in (λ (x : Pending). x .request) mine (a .1) in
       let c : b .0 .request .timestamp .0 ≡ t .0 = ap (λ (r : Request). r .timestamp .0) (sym (b .2)) ∙ a .2 in
-      in-length (batchOf group pending) (in-keep (λ (x : Pending). stamped t (x .request)) mine (b .1) (eq-eqb (b .0 .request .timestamp .0) (t .0) c))
+      let d = keep-in (ofGroup group) pending (b .1) in
+      in-length (batchOf group pending)
+      (in-keep (inBatch group t) pending (d .0) (in-batch group t (b .0) (eqb-true (b .0 .request .group) group (d .1)) c))
 
   -- no pending request of the group has a lesser timestamp than its batch
   pub batch-least : (p : Pending) → List·Memᴰ p pending → p .request .group ≡ group → groupTimestamp group pending .0 ≤ p .request .timestamp .0
   batch-least p m e = least-below (requestsOf (keep (ofGroup group) pending)) (request-in p m e)
 
   abbrev taken : Pending → Bool
-  taken p = ofGroup group p && stamped (groupTimestamp group pending) (p .request)
+  taken p = inBatch group (groupTimestamp group pending) p
 
   -- what stays was there, and is not of the batch
   pub others-in : {p : Pending} → List·Memᴰ p (others group pending) → List·Memᴰ p pending × (taken p ≡ false)
@@ -134,7 +137,7 @@ module _ (group : ℕ) (pending : List Pending) where
 
   -- the batch and what stays are as many as were pending
   pub others-batch : length (others group pending) + length (batchOf group pending) ≡ length pending
-  others-batch = rw (keep-both (λ p. stamped (groupTimestamp group pending) (p .request)) (ofGroup group) pending) (keep-parts taken pending)
+  others-batch = keep-parts taken pending
 
   -- to take off a batch takes off one request or more
   pub others-fewer : 0 < length (batchOf group pending) → length (others group pending) < length pending
@@ -142,9 +145,7 @@ module _ (group : ℕ) (pending : List Pending) where
 
   -- none of the batch's group and timestamp stays
   pub others-none : batchAt group (groupTimestamp group pending) (others group pending) ≡ []
-  others-none =
-      rw (keep-both (λ p. stamped (groupTimestamp group pending) (p .request)) (ofGroup group) (others group pending))
-      (keep-none taken (others group pending) (λ p m. others-in m .1))
+  others-none = keep-none taken (others group pending) (λ p m. others-in m .1)
 
   -- the pending requests of a group with a timestamp are taken off all or none
   pub others-whole : (g : ℕ) (t : Timestamp) → (batchAt g t (others group pending) ≡ []) ⊎ (batchAt g t (others group pending) ≡ batchAt g t pending)
@@ -156,20 +157,26 @@ module _ (group : ℕ) (pending : List Pending) where
           rw (eqb-true g group (a .0), eqb-true (t .0) (groupTimestamp group pending .0) (a .1)) others-none
 
       -- a request of g and t that is taken has the batch's group and timestamp
-      hit : (p : Pending) → ofGroup g p && stamped t (p .request) ≡ true → taken p ≡ true → eqb g group && eqb (t .0) (groupTimestamp group pending .0) ≡ true
+      hit : (p : Pending) → inBatch g t p ≡ true → taken p ≡ true → eqb g group && eqb (t .0) (groupTimestamp group pending .0) ≡ true
       hit p i j =
           let a = and-eq-true-iff (ofGroup g p) (stamped t (p .request)) .0 i in
           let b = and-eq-true-iff (ofGroup group p) (stamped (groupTimestamp group pending) (p .request)) .0 j in
           rw (← eqb-true (p .request .group) g (a .0), ← eqb-true (p .request .timestamp .0) (t .0) (a .1), b .0, b .1)
 
       kept : eqb g group && eqb (t .0) (groupTimestamp group pending .0) ≡ false → batchAt g t (others group pending) ≡ batchAt g t pending
-      kept e =
-          rw (keep-both (λ p. stamped t (p .request)) (ofGroup g) (others group pending), keep-both (λ p. stamped t (p .request)) (ofGroup g) pending)
-          (keep-keep (λ p. ofGroup g p && stamped t (p .request)) (λ p. not (taken p)) pending
-          (λ p i. case (taken p) (λ j. true-not-false (eqb g group && eqb (t .0) (groupTimestamp group pending .0)) (hit p i j) e) (λ j. rw j)))
+      kept e = keep-keep (inBatch g t) (λ p. not (taken p)) pending
+          (λ p i. case (taken p) (λ j. true-not-false (eqb g group && eqb (t .0) (groupTimestamp group pending .0)) (hit p i j) e) (λ j. rw j))
 
   -- the requests of another group all stay
   pub others-other : (g : ℕ) → eqb group g ≡ false → keep (ofGroup g) (others group pending) ≡ keep (ofGroup g) pending
   others-other g e = keep-keep (ofGroup g) (λ p. not (taken p)) pending (λ p i. case (ofGroup group p)
       (λ a. true-not-false (eqb group g) (eq-eqb group g (sym (eqb-true (p .request .group) group a) ∙ eqb-true (p .request .group) g i)) e)
       (λ a. rw a))
+
+-- a group's batch is among its own requests
+pub batchAt-group : (group : ℕ) (t : Timestamp) (pending : List Pending) → batchAt group t pending ≡ keep (λ p. stamped t (p .request)) (keep (ofGroup group) pending)
+batchAt-group group t pending = sym (keep-both (λ p. stamped t (p .request)) (ofGroup group) pending)
+
+-- so it depends on them alone
+pub batch-same : (group : ℕ) (a b : List Pending) → keep (ofGroup group) a ≡ keep (ofGroup group) b → batchOf group a ≡ batchOf group b
+batch-same group a b e = rw (batchAt-group group (groupTimestamp group a) a, batchAt-group group (groupTimestamp group b) b, e)

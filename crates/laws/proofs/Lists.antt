@@ -8,18 +8,10 @@ use native.Mathlib.Omega.{arith}
 use lib.Dec.{eqb}
 use lib.ListN.{length, length-append}
 use borrow.Author.Tests.{eqb-true, eqb-false}
+use Rattle.question.proofs.Tests.{case, true-not-false}
 use Rattle.rules.specs.Lists.{keep, every, some, upTo, tally}
 
 -- ── tests ──
-
--- a case of a computed test, with its equation
-pub case {ℓ} : {A : Type ℓ} (b : Bool) → (b ≡ true → A) → (b ≡ false → A) → A
-case true f g = f refl
-case false f g = g refl
-
--- a test does not come out both ways
-pub true-not-false : {A : Type 0} (b : Bool) → b ≡ true → b ≡ false → A
-true-not-false b p q = absurd (let z : _≡_ {A = ℕ} 0 1 = cc in omega arith)
 
 -- tests that imply each other come out alike
 pub same-test : (a b : Bool) → (a ≡ true → b ≡ true) → (b ≡ true → a ≡ true) → a ≡ b

@@ -10,11 +10,14 @@ use Rattle.record.specs.declared.clock.LocalTime.{LocalTime}
 use Rattle.record.specs.declared.request.Request.{Request}
 use Rattle.record.specs.declared.message.Message.{Message}
 use Rattle.rules.specs.Lists.{upTo}
-use Rattle.rules.specs.Batch.{Settings, Store, Effect, still, follow, failed, allReads, unanimous, replyTo, haltTo, handle}
-use Rattle.rules.specs.Replica.{State, requestsOf, groupTimestamp, batchOf, isStable, handleBatch, visits}
+use Rattle.rules.specs.Batch.{Store, Effect, still, follow, failed, allReads, unanimous, replyTo, haltTo, handle}
+use Rattle.rules.specs.declared.Settings.{Settings}
+use Rattle.rules.specs.Replica.{State, requestsOf, groupTimestamp, batchOf, isStable, handleBatch, visits, batchAt}
 use Rattle.rules.specs.declared.Pending.{Pending}
-use Rattle.laws.proofs.Lists.{case, true-not-false, map-in}
-use Rattle.laws.proofs.Least.{stable-hit, batchAt, batchAt-in, others-none, others-whole}
+use Rattle.question.proofs.Tests.{case, true-not-false}
+use Rattle.laws.proofs.Lists.{map-in}
+use Rattle.laws.proofs.Least.{stable-hit, batchAt-in, others-none, others-whole}
+use Rattle.laws.proofs.Verdict.{Said, replied, halted, handled-said, handle-view}
 use Rattle.laws.proofs.Visits.{visits-all}
 use Rattle.laws.proofs.Keeps.{Keeps, keeps-same, keeps-then, batch-keeps}
 
@@ -22,20 +25,14 @@ use Rattle.laws.proofs.Keeps.{Keeps, keeps-same, keeps-then, batch-keep
 pub handle-sent : (u : Settings) (replica group : ℕ) (t : Timestamp) (batch : List Request) (s : Store)
     → ((r : Request) → List·Memᴰ r batch → (r .group ≡ group) × (r .timestamp .0 ≡ t .0))
     → (m : Message) → List·Memᴰ m (handle u replica group t batch s .sent) → (m .group ≡ group) × (m .timestamp ≡ t)
-unfolding handle
 handle-sent u replica group t batch s of m i =
-    case (allReads batch) (λ a. replied (map-in (replyTo s replica) batch (rw a at i)))
-    (λ a. case (unanimous (u .k) batch && eqb group (u .owner) && not (failed s)) (λ b. absurd (List·Memᴰ·not-nil (rw (a, b) at i)))
-    (λ b. case (eqb group (u .owner) && not (failed s)) (λ c. halted (map-in (haltTo group replica t) (upTo (u .k + 1)) (rw (a, b, c) at i)))
-    (λ c. absurd (List·Memᴰ·not-nil (rw (a, b, c) at i)))))
+    go (handled-said (u .k) (u .owner) replica group t batch s (handle-view u replica group t batch s) m i)
   where
-    replied : (r : Request) × List·Memᴰ r batch × (m ≡ replyTo s replica r) → (m .group ≡ group) × (m .timestamp ≡ t)
-    replied r =
-        let o = of (r .0) (r .1) in
-        (ap (λ (x : Message). x .group) (r .2) ∙ o .0, ap (λ (x : Message). x .timestamp) (r .2) ∙ ap (λ (x : ℕ). record { 0 = x }) (o .1))
-
-    halted : (p : ℕ) × List·Memᴰ p (upTo (u .k + 1)) × (m ≡ haltTo group replica t p) → (m .group ≡ group) × (m .timestamp ≡ t)
-    halted r = (ap (λ (x : Message). x .group) (r .2), ap (λ (x : Message). x .timestamp) (r .2))
+    go : Said (u .k) (u .owner) replica group t batch s m → (m .group ≡ group) × (m .timestamp ≡ t)
+    go (replied r j e) =
+        let o = of r j in
+        (ap (λ (x : Message). x .group) e ∙ o .0, ap (λ (x : Message). x .timestamp) e ∙ ap (λ (x : ℕ). record { 0 = x }) (o .1))
+    go (halted process j e) = (ap (λ (x : Message). x .group) e, ap (λ (x : Message). x .timestamp) e)
 
 -- from s to t: the requests pending with the message's group and timestamp were a stable batch, the message is one of those
 -- that its handling sends, and none of them is left

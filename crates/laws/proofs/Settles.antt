@@ -11,8 +11,8 @@ use Rattle.record.specs.declared.clock.LocalTime.{LocalTime}
 use Rattle.rules.specs.Lists.{keep}
 use Rattle.rules.specs.Replica.{State, ofGroup, batchOf, isStable, handleBatch, visit, visits}
 use Rattle.rules.specs.declared.Pending.{Pending}
-use Rattle.laws.proofs.Lists.{case}
-use Rattle.laws.proofs.Least.{stable-some, others-fewer, others-other}
+use Rattle.question.proofs.Tests.{case}
+use Rattle.laws.proofs.Least.{batch-same, stable-some, others-fewer, others-other}
 use Rattle.laws.proofs.Visits.{visit-all}
 use Rattle.laws.proofs.Keeps.{visits-keep}
 
@@ -47,4 +47,6 @@ visits-settle (suc n) now s g low high =
     let t = visits n now s .state in
     case (eqb (suc n) g)
     (λ e. rw (← eqb-true (suc n) g e) (rw (visits-keep n now s .settings) at (visit-settles (suc n) now (length (t .pending)) t (omega arith))))
-    (λ e. rw (visit-other (suc n) g now (length (t .pending)) t e) (visits-settle n now s g low (omega (arith, eqb-false (suc n) g e))))
+    (λ e.
+    let rest = visit (suc n) now (length (t .pending)) t .state .pending in
+    rw (batch-same g rest (t .pending) (visit-other (suc n) g now (length (t .pending)) t e)) (visits-settle n now s g low (omega (arith, eqb-false (suc n) g e))))

@@ -9,20 +9,28 @@ use native.Mathlib.Omega.{arith}
 use lib.Dec.{eqb}
 use lib.ListN.{length, getD, set, replicate, length-set, length-replicate}
 use lib.Seq.{getD-set-same, getD-set-other}
-use Rattle.record.specs.Record.{messageQuestions}
+use Rattle.limits.specs.Limits.{places}
+use Rattle.record.specs.Kind.{isOf}
+use Rattle.record.specs.Record.{messageFields, allowsVariable, allowsValue, sparesZero}
 use Rattle.record.specs.declared.clock.Timestamp.{Timestamp}
 use Rattle.record.specs.declared.clock.LocalTime.{LocalTime}
+use Rattle.record.specs.declared.kind.Family.the-variants.{Messages}
+use Rattle.record.specs.declared.message.Message.{Message}
 use Rattle.record.specs.declared.request.Request.{Request}
 use Rattle.rules.specs.Lists.{every, upTo}
-use Rattle.rules.specs.Batch.{Settings, Store, Effect, follow, newStore, valueOf, failed, isWrite, allReads, allSame, allSendersDiffer, unanimous, perform, fail, replyTo, haltTo, handle}
+use Rattle.record.specs.Kind.{isWrite}
+use Rattle.rules.specs.Batch.{firstOf, Store, Effect, follow, newStore, valueOf, failed, allReads, allSame, allSendersDiffer, unanimous, perform, fail, replyTo, haltTo, handle}
+use Rattle.rules.specs.declared.Settings.{Settings}
 use Rattle.rules.specs.Replica.{State, newState, requestsOf, groupTimestamp, batchOf, isStable, handleBatch, visits}
 use Rattle.rules.specs.declared.Pending.{Pending}
-use Rattle.laws.proofs.Lists.{case, every-in, map-in, upTo-in}
+use Rattle.question.proofs.Tests.{in-within}
+use Rattle.laws.proofs.Lists.{every-in, map-in, upTo-in}
 use Rattle.laws.proofs.Least.{stable-hit, batchAt-in}
+use Rattle.laws.proofs.Verdict.{Unanimous, Handled, answered, performed, failing, passed, Said, replied, halted, handled-said, handle-view}
 use Rattle.laws.proofs.Visits.{visits-all}
 use Rattle.laws.proofs.Keeps.{Keeps, batch-keeps, handle-variables}
 use Rattle.laws.proofs.Records.{Sendable, AllSendable}
-use Rattle.laws.proofs.Accepted.{in-within, Made, Proper}
+use Rattle.laws.proofs.Accepted.{Made, Proper}
 
 -- ── the store ──
 
@@ -46,57 +54,33 @@ set-below b (y ∷ l) zero x h k (suc i) = k (suc i)
 set-below b (y ∷ l) (suc j) x h k zero = k 0
 set-below b (y ∷ l) (suc j) x h k (suc i) = set-below b l j x h (λ n. k (suc n)) i
 
--- the batch is of writes where it is unanimous
-pub unanimous-writes : (k : ℕ) (batch : List Request) → unanimous k batch ≡ true → every isWrite batch ≡ true
-unanimous-writes k batch e =
-    let a = and-eq-true-iff (eqb (length batch) (k + 1) && every isWrite batch && allSendersDiffer batch) (allSame batch) .0 e in
-    let b = and-eq-true-iff (eqb (length batch) (k + 1) && every isWrite batch) (allSendersDiffer batch) .0 (a .0) in
-    and-eq-true-iff (eqb (length batch) (k + 1)) (every isWrite batch) .0 (b .0) .1
-
 -- a performed write leaves variable 0
-pub perform-mark : (batch : List Request) (s : Store) → every isWrite batch ≡ true
-    → ((r : Request) → List·Memᴰ r batch → isWrite r ≡ true → 1 ≤ r .variable) → valueOf 0 (perform batch s) ≡ valueOf 0 s
-perform-mark [] s e h = refl
-perform-mark (r ∷ batch) s e h =
-    let low = h r (List·Memᴰ·head refl) (every-in isWrite (r ∷ batch) e r (List·Memᴰ·head refl)) in
+pub perform-mark : (k : ℕ) (batch : List Request) (s : Store) → Unanimous k batch
+    → ((r : Request) → List·Memᴰ r batch → isWrite r ≡ true → 1 ≤ r .variable) → valueOf 0 (perform (firstOf batch) s) ≡ valueOf 0 s
+perform-mark k batch s a h =
+    let r = firstOf batch in
+    let low = h r (a .first) (every-in isWrite batch (a .writes) r (a .first)) in
     let apart : 0 ≢ r .variable = omega arith in
     getD-set-other (s .variables) (r .variable) 0 (r .value) 0 apart
-
-perform-values : (batch : List Request) (s : Store) → ((r : Request) → List·Memᴰ r batch → r .value < 256 ^ 4) → ((i : ℕ) → valueOf i s < 256 ^ 4)
-    → (i : ℕ) → valueOf i (perform batch s) < 256 ^ 4
-perform-values [] s small h i = h i
-perform-values (r ∷ batch) s small h i = set-below (256 ^ 4) (s .variables) (r .variable) (r .value) (small r (List·Memᴰ·head refl)) h i
 
 -- handling a batch of accepted requests keeps the store in order
 handle-in-order : (u : Settings) (replica group : ℕ) (t : Timestamp) (batch : List Request) (s : Store)
     → ((r : Request) → List·Memᴰ r batch → Proper (u .k) (u .groups) r) → InOrder s → InOrder (handle u replica group t batch s .state)
-unfolding handle
-handle-in-order u replica group t batch s proper h =
-    case (allReads batch) (λ a. rw a h)
-    (λ a. case (unanimous (u .k) batch && eqb group (u .owner) && not (failed s)) (λ b. rw (a, b) (performed b (many a b)))
-    (λ b. case (eqb group (u .owner) && not (failed s)) (λ c. rw (a, b, c) failing) (λ c. rw (a, b, c) h)))
+handle-in-order u replica group t batch s proper h = go (handle-view u replica group t batch s)
   where
-    many : allReads batch ≡ false → unanimous (u .k) batch && eqb group (u .owner) && not (failed s) ≡ true
-        → length (perform batch s .variables) ≡ 256
-    many a b = rw (a, b) at (handle-variables u replica group t batch s) ∙ h .variables
-
-    performed : unanimous (u .k) batch && eqb group (u .owner) && not (failed s) ≡ true → length (perform batch s .variables) ≡ 256
-        → InOrder (perform batch s)
-    performed b long =
-        let a = and-eq-true-iff (unanimous (u .k) batch && eqb group (u .owner)) (not (failed s)) .0 b in
-        let c = and-eq-true-iff (unanimous (u .k) batch) (eqb group (u .owner)) .0 (a .0) in
-        record {
-          variables = long;
-          values = perform-values batch s (λ r i. proper r i .value) (h .values);
-          mark = rw (perform-mark batch s (unanimous-writes (u .k) batch (c .0)) (λ r i. proper r i .written)) (h .mark);
-        }
-
-    failing : InOrder (fail s)
-    failing = record {
+    go : {e : Effect Store} → Handled (u .k) (u .owner) replica group t batch s e → InOrder (e .state)
+    go (answered a) = h
+    go (performed a o f) = record {
+      variables = length-set (s .variables) (firstOf batch .variable) (firstOf batch .value) ∙ h .variables;
+      values = set-below (256 ^ 4) (s .variables) (firstOf batch .variable) (firstOf batch .value) (proper (firstOf batch) (a .first) .value) (h .values);
+      mark = rw (perform-mark (u .k) batch s a (λ r i. proper r i .written)) (h .mark);
+    }
+    go (failing o f) = record {
       variables = length-set (s .variables) 0 1 ∙ h .variables;
       values = set-below (256 ^ 4) (s .variables) 0 1 (omega arith) (h .values);
       mark = rw (getD-set-same (s .variables) 0 1 0 (omega (arith, h .variables))) (omega arith);
     }
+    go passed = h
 
 -- ── the state ──
 
@@ -105,7 +89,7 @@ module _ (u : Settings) (me : ℕ) where
     pub settings : s .settings ≡ u
     pub number : s .number ≡ me
     pub pending : (p : Pending) → List·Memᴰ p (s .pending) → Proper (u .k) (u .groups) (p .request)
-    pub few : length (s .pending) ≤ 64
+    pub few : length (s .pending) ≤ places
     pub store : InOrder (s .store)
 
   pub new-sound : Sound (newState u me)
@@ -125,36 +109,41 @@ module _ (u : Settings) (me : ℕ) where
 -- ── what a step sends ──
 
 module _ (u : Settings) (me : ℕ) (ok : Made u me) where
+  -- a message of this replica to a process of a group, with a variable and a value that its kind admits
+  sendable : (m : Message) → isOf Messages (m .kind) ≡ true → 1 ≤ m .group → m .group ≤ u .groups → 1 ≤ m .process → m .process ≤ u .k + 1
+      → m .replica ≡ me → allowsVariable (messageFields m) ≡ true → allowsValue (messageFields m) ≡ true → sparesZero Messages (messageFields m) ≡ true
+      → m .timestamp .0 < 256 ^ 8 → m .value < 256 ^ 4 → Sendable (u .k) (u .groups) m
+  sendable m kind group-low group-high process-low process-high mine variable value spares timestamp small = record {
+    fields = record {
+      kind = kind;
+      group = in-within 1 (u .groups) (m .group) group-low group-high;
+      process = in-within 1 (u .k + 1) (m .process) process-low process-high;
+      sender = (rw mine (in-within 1 (2 * u .k + 1) me (ok .number-low) (ok .number-high)), tt);
+      variable = variable;
+      spares = spares;
+      value = value;
+    };
+    timestamp = timestamp;
+    value = small;
+  }
+
   reply-sendable : (s : Store) (r : Request) → InOrder s → Proper (u .k) (u .groups) r → Sendable (u .k) (u .groups) (replyTo s me r)
-  unfolding messageQuestions
   reply-sendable s r h p =
-      let group = in-within 1 (u .groups) (r .group) (p .group-low) (p .group-high) in
-      let process = in-within 1 (u .k + 1) (r .process) (p .process-low) (p .process-high) in
-      let replica = in-within 1 (2 * u .k + 1) me (ok .number-low) (ok .number-high) in
-      let variable = in-within 0 255 (r .variable) (omega arith) (p .variable) in
-      record { fields = (refl, (group, (process, (replica, (variable, (refl, tt)))))); timestamp = p .timestamp; value = h .values (r .variable) }
+      sendable (replyTo s me r) refl (p .group-low) (p .group-high) (p .process-low) (p .process-high) refl
+      (in-within 0 255 (r .variable) (omega arith) (p .variable)) refl refl (p .timestamp) (h .values (r .variable))
 
   halt-sendable : (g : ℕ) (t : Timestamp) (to : ℕ) → 1 ≤ g → g ≤ u .groups → t .0 < 256 ^ 8 → 1 ≤ to → to ≤ u .k + 1
       → Sendable (u .k) (u .groups) (haltTo g me t to)
-  unfolding messageQuestions
-  halt-sendable g t to g-low g-high small low high =
-      let group = in-within 1 (u .groups) g g-low g-high in
-      let process = in-within 1 (u .k + 1) to low high in
-      let replica = in-within 1 (2 * u .k + 1) me (ok .number-low) (ok .number-high) in
-      record { fields = (refl, (group, (process, (replica, (refl, (refl, tt)))))); timestamp = small; value = omega arith }
+  halt-sendable g t to g-low g-high small low high = sendable (haltTo g me t to) refl g-low g-high low high refl refl refl refl small (omega arith)
 
   handle-sendable : (group : ℕ) (t : Timestamp) (batch : List Request) (s : Store) → InOrder s → 1 ≤ group → group ≤ u .groups → t .0 < 256 ^ 8
       → ((r : Request) → List·Memᴰ r batch → Proper (u .k) (u .groups) r) → AllSendable (u .k) (u .groups) (handle u me group t batch s .sent)
-  unfolding handle
   handle-sendable group t batch s h low high small proper m i =
-      case (allReads batch) (λ a. let r = map-in (replyTo s me) batch (rw a at i) in rw (r .2) (reply-sendable s (r .0) h (proper (r .0) (r .1))))
-      (λ a. case (unanimous (u .k) batch && eqb group (u .owner) && not (failed s)) (λ b. absurd (List·Memᴰ·not-nil (rw (a, b) at i)))
-      (λ b. case (eqb group (u .owner) && not (failed s))
-      (λ c.
-      let r = map-in (haltTo group me t) (upTo (u .k + 1)) (rw (a, b, c) at i) in
-      let p = upTo-in (u .k + 1) (r .1) in
-      rw (r .2) (halt-sendable group t (r .0) low high small (p .0) (p .1)))
-      (λ c. absurd (List·Memᴰ·not-nil (rw (a, b, c) at i)))))
+      go (handled-said (u .k) (u .owner) me group t batch s (handle-view u me group t batch s) m i)
+    where
+      go : Said (u .k) (u .owner) me group t batch s m → Sendable (u .k) (u .groups) m
+      go (replied r j e) = rw e (reply-sendable s r h (proper r j))
+      go (halted process j e) = let p = upTo-in (u .k + 1) j in rw e (halt-sendable group t process low high small (p .0) (p .1))
 
   batch-soundly : (now : LocalTime) (group : ℕ) (s : State) → isStable (s .settings .delta) now (batchOf group (s .pending)) ≡ true
       → Soundly u me s (handleBatch group s)

@@ -1,22 +1,22 @@
 -- What the second demand wants of every accepted step.
 use Prim.Native.Nat.{ℕ, zero, suc, _≤_, _<_}
-use mathlib.Core.Path.{_≡_, refl}
+use mathlib.Core.Path.{_≡_, refl, sym}
 use mathlib.Core.Logic.{_⊎_}
 use mathlib.Core.Bool.{false}
 use mathlib.Core.List.{List, [], _∷_, _++_, List·Memᴰ}
 use native.Mathlib.Omega.{arith}
 use lib.Dec.{leb}
 use lib.ListN.{length, replicate}
-use Rattle.question.specs.Question.{_else_, given, ask, bind}
-use Rattle.record.specs.Record.{read, write}
+use Rattle.limits.specs.Limits.{maxK, maxSent, places, outputSize}
+use Rattle.question.specs.Question.{given, ask, mapAnswer}
+use Rattle.record.specs.Kind.{read, write}
 use Rattle.record.specs.declared.clock.Timestamp.{Timestamp}
 use Rattle.record.specs.declared.clock.LocalTime.{LocalTime}
 use Rattle.record.specs.declared.message.Message.{Message}
-use Rattle.question.proofs.Questions.{ask-through}
-use Rattle.rules.specs.Batch.{newStore, handle}
-use Rattle.rules.specs.Replica.{State, Stepped, timeQuestions, batchOf, isStable, handleBatch, visit, visits, atTime, stepped, step}
+use Rattle.question.proofs.Questions.{ask-through, same-given}
+use Rattle.rules.specs.Batch.{verdictOf, newStore, handle}
+use Rattle.rules.specs.Replica.{State, Stepped, stepQuestions, batchOf, isStable, handleBatch, visit, visits, atTime, stepped, step, batchAt}
 use Rattle.rules.specs.declared.Pending.{Pending}
-use Rattle.laws.proofs.Least.{batchAt}
 use Rattle.laws.proofs.Keeps.{Keeps, visits-keep}
 use Rattle.laws.proofs.Settles.{visits-settle}
 use Rattle.laws.proofs.Owes.{Owed, visits-owe}
@@ -25,40 +25,37 @@ use Rattle.laws.proofs.Count.{visits-cost}
 -- an accepted step gives what the rules make of the state, the time and the output
 pub step-accepted : (s : State) (now : LocalTime) (output : List ℕ) {d : Stepped} → step s now output ≡ given d → d ≡ stepped s now output
 unfolding step
-step-accepted s now output e =
-    let a = ask-through (timeQuestions (s .last) now) (ask ((leb 1608 (length output) else 15) ∷ []) (given (stepped s now output))) e in
-    let b = ask-through ((leb 1608 (length output) else 15) ∷ []) (given (stepped s now output)) a in
-    cc
+step-accepted s now output e = same-given (sym (ask-through (stepQuestions (s .last) now (length output)) (given (stepped s now output)) e))
 
 module _ (s : State) (now : LocalTime) (output : List ℕ) {d : Stepped} (e : step s now output ≡ given d) where
   -- no group has a stable batch afterwards
   pub step-settles : (g : ℕ) → 1 ≤ g → g ≤ s .settings .groups → isStable (s .settings .delta) now (batchOf g (d .state .pending)) ≡ false
   unfolding stepped
-  step-settles g low high = rw (step-accepted s now output e) (visits-settle (s .settings .groups) now (atTime s now) g low high)
+  step-settles g low high = rw (step-accepted s now output e) (visits-settle (s .settings .groups) now (atTime now s) g low high)
 
   -- every message belongs to a batch that was stable and is handled
-  pub step-owes : (m : Message) → List·Memᴰ m (visits (s .settings .groups) now (atTime s now) .sent) → Owed now s (d .state) m
+  pub step-owes : (m : Message) → List·Memᴰ m (visits (s .settings .groups) now (atTime now s) .sent) → Owed now s (d .state) m
   unfolding stepped
   step-owes m i =
-      let o = visits-owe (s .settings .groups) now (atTime s now) .owed m i in
+      let o = visits-owe (s .settings .groups) now (atTime now s) .owed m i in
       record { stable = o .stable; store = o .store; sent = o .sent; gone = rw (step-accepted s now output e) (o .gone) }
 
   -- the pending requests of a group with a timestamp are handled all or none
   pub step-takes-whole : (g : ℕ) (t : Timestamp) → (batchAt g t (d .state .pending) ≡ []) ⊎ (batchAt g t (d .state .pending) ≡ batchAt g t (s .pending))
   unfolding stepped
-  step-takes-whole g t = rw (step-accepted s now output e) (visits-owe (s .settings .groups) now (atTime s now) .whole g t)
+  step-takes-whole g t = rw (step-accepted s now output e) (visits-owe (s .settings .groups) now (atTime now s) .whole g t)
 
   -- the time is the step's; otherwise the state is what it was, but for the variables' values, the writes performed, and requests
   -- that are no longer pending
-  pub step-keeps : Keeps (atTime s now) (d .state)
+  pub step-keeps : Keeps (atTime now s) (d .state)
   unfolding stepped
-  step-keeps = rw (step-accepted s now output e) (visits-keep (s .settings .groups) now (atTime s now))
+  step-keeps = rw (step-accepted s now output e) (visits-keep (s .settings .groups) now (atTime now s))
 
   -- 67 records are room enough
-  pub step-at-most-67 : s .settings .k ≤ 3 → length (s .pending) ≤ 64 → 0 < length (s .store .variables) → d .count ≤ 67
+  pub step-at-most-67 : s .settings .k ≤ maxK → length (s .pending) ≤ places → 0 < length (s .store .variables) → d .count ≤ maxSent
   unfolding stepped
   step-at-most-67 k pending variables =
-      rw (step-accepted s now output e) (omega (arith, visits-cost (s .settings .groups) now (atTime s now) variables))
+      rw (step-accepted s now output e) (omega (arith, visits-cost (s .settings .groups) now (atTime now s) variables))
 
 -- ── 67 is reached: 63 reads, and a write of one process alone that fails the store ──
 
@@ -81,6 +78,6 @@ full = record {
   last = record { 0 = 0 };
 }
 
-pub sixty-seven-sent : bind (step full (record { 0 = 1 }) (replicate 1608 0)) (λ d. given (d .count)) ≡ given 67
-unfolding ask handle handleBatch visit visits stepped step
+pub sixty-seven-sent : mapAnswer (λ d. d .count) (step full (record { 0 = 1 }) (replicate outputSize 0)) ≡ given maxSent
+unfolding ask verdictOf handle handleBatch visit visits stepped step
 sixty-seven-sent = refl

@@ -7,7 +7,7 @@ use lib.ListN.{length}
 use Rattle.record.specs.declared.clock.LocalTime.{LocalTime}
 use Rattle.rules.specs.Batch.{Effect, still, follow}
 use Rattle.rules.specs.Replica.{State, batchOf, isStable, handleBatch, visit, visits}
-use Rattle.laws.proofs.Lists.{case}
+use Rattle.question.proofs.Tests.{case}
 
 module _ (now : LocalTime) (P : State → Effect State → Type 0)
     (nothing : (s : State) → P s (still s))

@@ -10,16 +10,18 @@ use lib.ListN.{length}
 use borrow.Author.Tests.{eq-eqb}
 use Rattle.question.specs.Question.{_else_, Answer, given, refused, ask, bind, after, unitQuestions}
 use Rattle.record.specs.Layout.{fieldsOf}
-use Rattle.record.specs.Record.{requestQuestions, requestIn, readWith, readRequest}
 use Rattle.record.specs.declared.clock.LocalTime.{LocalTime}
 use Rattle.record.specs.declared.request.Request.{Request}
-use Rattle.question.proofs.Questions.{ask-all-yes, ask-through, within-true}
-use Rattle.rules.specs.Batch.{Settings, Store, newStore, handle}
+use Rattle.question.proofs.Questions.{ask-all-yes, ask-through}
+use Rattle.question.proofs.Tests.{within-true}
+use Rattle.rules.specs.Batch.{Store, newStore, handle}
+use Rattle.rules.specs.declared.Settings.{Settings}
 use Rattle.rules.specs.Replica.{State, Stepped, newState, timeQuestions, admit, arrive, deliver, requestsOf, groupTimestamp, batchOf, handleBatch, visits, atTime, stepped, step}
 use Rattle.rules.specs.Run.{Call, delivery, turn, sentBy, call, run, arrived, arrivalOf, arrivals}
 use Rattle.rules.specs.declared.Pending.{Pending}
 use Rattle.laws.proofs.Lists.{map-in}
 use Rattle.laws.proofs.Least.{batchAt-in}
+use Rattle.laws.proofs.Accepted.{read-process, admit-admitted}
 use Rattle.laws.proofs.Visits.{visits-all}
 use Rattle.laws.proofs.Keeps.{Keeps, batch-keeps}
 use Rattle.laws.proofs.Step.{step-accepted}
@@ -27,33 +29,9 @@ use Rattle.laws.proofs.Senders.{Change, kept, fails, performs, performe
 
 -- ── what is admitted ──
 
-bind-given : {A B : Type 0} (a : Answer A) (f : A → Answer B) {b : B} → bind a f ≡ given b → (x : A) × (a ≡ given x) × (f x ≡ given b)
-bind-given (given x) f e = (x, refl, e)
-bind-given (refused number) f e = absurd (let z : _≡_ {A = ℕ} 0 1 = cc in omega arith)
-
--- an accepted record is of a process within 1 to k + 1
-read-process : (k n : ℕ) (bytes : List ℕ) {r : Request} → readRequest k n bytes ≡ given r → (1 ≤ r .process) × (r .process ≤ k + 1)
-unfolding readWith requestQuestions
-read-process k n bytes {r} e =
-    let f = fieldsOf bytes in
-    let rest = ask (requestQuestions k n f) (given (requestIn f)) in
-    let a = ask-through (unitQuestions k n) (ask ((eqb (length bytes) 24 else 6) ∷ []) rest) e in
-    let b = ask-through ((eqb (length bytes) 24 else 6) ∷ []) rest a in
-    let yes = ask-all-yes (requestQuestions k n f) (given (requestIn f)) b in
-    let c = ask-through (requestQuestions k n f) (given (requestIn f)) b in
-    let same : f .process ≡ r .process = cc in
-    rw same at (within-true 1 (k + 1) (f .process) (yes .1 .1 .0))
-
 admit-process : (s : State) (bytes : List ℕ) (now : LocalTime) {r : Request} → admit s bytes now ≡ given r
     → (1 ≤ r .process) × (r .process ≤ s .settings .k + 1)
-unfolding admit
-admit-process s bytes now {r} e =
-    let rest : Request → Answer Request = λ q. ask ((ltb (length (s .pending)) 64 else 14) ∷ []) (given q) in
-    let a = bind-given (readRequest (s .settings .k) (s .settings .groups) bytes) (λ q. ask (timeQuestions (s .last) now) (rest q)) e in
-    let b = ask-through (timeQuestions (s .last) now) (rest (a .0)) (a .2) in
-    let c = ask-through ((ltb (length (s .pending)) 64 else 14) ∷ []) (given (a .0)) b in
-    let same : a .0 ≡ r = cc in
-    read-process (s .settings .k) (s .settings .groups) bytes (a .1 ∙ ap given same)
+admit-process s bytes now e = read-process (s .settings .k) (s .settings .groups) bytes (admit-admitted s bytes now e .reads)
 
 -- ── the course of a store ──
 
@@ -149,7 +127,7 @@ module _ (u : Settings) (requests : List Request) where
   unfolding stepped
   step-runs s now output (refused number) e = runs-same s
   step-runs s now output (given d) e = λ r. rw (step-accepted s now output e)
-      (visits-run (s .settings .groups) now (atTime s now) (record { settings = r .settings; within = r .within; known = r .known }))
+      (visits-run (s .settings .groups) now (atTime now s) (record { settings = r .settings; within = r .within; known = r .known }))
 
   -- the arrivals are among the requests
   abbrev Covers : List Pending → Type 0

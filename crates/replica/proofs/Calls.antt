@@ -5,7 +5,8 @@ use mathlib.Core.List.{List, _++_}
 use native.Mathlib.Omega.{arith}
 use Rattle.question.specs.Question.{Answer, given, refused, after, bind}
 use Rattle.record.specs.declared.message.Message.{Message}
-use Rattle.rules.specs.Batch.{Settings, Effect, follow}
+use Rattle.rules.specs.Batch.{Effect, follow}
+use Rattle.rules.specs.declared.Settings.{Settings}
 use Rattle.rules.specs.Replica.{State, Stepped, newState, step}
 use Rattle.rules.specs.Run.{Call, sentBy, call, run}
 use Rattle.batch.specs.State.{stateOf}

@@ -11,7 +11,8 @@ use Rattle.record.specs.declared.request.Request.{Request}
 use Rattle.rules.specs.Lists.{keep}
 use Rattle.rules.specs.Batch.{Store, Effect, still, failed, perform, fail, allReads, unanimous, replyTo, haltAll, handle}
 use Rattle.rules.specs.Replica.{State, stamped, ofGroup, groupTimestamp, handleBatch}
-use Rattle.laws.proofs.Lists.{true-not-false, keep-both}
+use Rattle.question.proofs.Tests.{true-not-false}
+use Rattle.laws.proofs.Lists.{keep-both}
 use Rattle.batch.specs.State.{withPending}
 use Rattle.replica.specs.State.{withStore}
 use Rattle.batch.specs.Head.{inBatch, batchAt, firstOf}

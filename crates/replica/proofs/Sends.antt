@@ -41,7 +41,7 @@ sends-follow count output e next same =
 
 -- a step sends from the start of the output
 pub stepped-sends : (s : State) (now : LocalTime) (output : List ℕ)
-    → sends 0 output (visits (s .settings .groups) now (atTime s now)) ≡ stepped s now output
+    → sends 0 output (visits (s .settings .groups) now (atTime now s)) ≡ stepped s now output
 unfolding stepped writeAt
 stepped-sends s now output =
-    stepped-is refl (omega arith) (rw (visits-keep (s .settings .groups) now (atTime s now) .settings))
+    stepped-is refl (omega arith) (rw (visits-keep (s .settings .groups) now (atTime now s) .settings))

@@ -10,7 +10,7 @@ use Rattle.record.specs.declared.clock.LocalTime.{LocalTime}
 use Rattle.rules.specs.Batch.{Effect, still, follow}
 use Rattle.rules.specs.Replica.{State, batchOf, isStable, handleBatch, visit, visits}
 use Rattle.rules.specs.declared.Pending.{Pending}
-use Rattle.laws.proofs.Lists.{case}
+use Rattle.question.proofs.Tests.{case}
 use Rattle.laws.proofs.Least.{stable-some, others-fewer}
 use Rattle.laws.proofs.Visits.{visit-all}
 use Rattle.laws.proofs.Keeps.{batch-keeps}

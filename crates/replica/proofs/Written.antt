@@ -15,7 +15,7 @@ use Rattle.record.specs.Record.{messageQuestions, messageFields, writeMessage}
 use Rattle.record.specs.declared.message.Message.{Message}
 use Rattle.rules.specs.Lists.{upTo}
 use Rattle.rules.specs.Replica.{writeAll}
-use Rattle.question.proofs.Questions.{within-true}
+use Rattle.question.proofs.Tests.{within-true}
 use Rattle.record.proofs.Layouts.{length-bytes-of}
 use Rattle.record.proofs.Record.{write-given, write-writable}
 use Rattle.laws.proofs.Lists.{length-upTo}

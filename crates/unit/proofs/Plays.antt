@@ -9,7 +9,7 @@ use lib.Seq.{take-all, take-nil}
 use native.Mathlib.Omega.{arith}
 use borrow.Author.Tests.{leb-true, leb-false}
 use Rattle.question.specs.Question.{Answer, given, refused, Worked, bind, next, after, verdict}
-use Rattle.rules.specs.Batch.{Settings}
+use Rattle.rules.specs.declared.Settings.{Settings}
 use Rattle.rules.specs.Replica.{State, Stepped}
 use Rattle.unit.specs.Page.{answerLines, joined}
 use Rattle.unit.specs.Journal.{putBack}

@@ -11,7 +11,8 @@ use native.Mathlib.Nat.{add-zero}
 use native.Mathlib.Omega.{arith}
 use Rattle.io.specs.Digits.{digits}
 use Rattle.question.specs.Question.{Answer, given, refused}
-use Rattle.record.specs.Record.{reply, readMessage}
+use Rattle.record.specs.Kind.{reply}
+use Rattle.record.specs.Record.{readMessage}
 use Rattle.record.specs.declared.message.Message.{Message}
 use Rattle.rules.specs.Lists.{tally}
 use Rattle.rules.specs.Run.{accepted, messagesIn}

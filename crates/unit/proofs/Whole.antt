@@ -9,7 +9,8 @@ use lib.ListN.{replicate}
 use Rattle.question.specs.Question.{ask, unitQuestions}
 use Rattle.record.specs.Number.{number, digits}
 use Rattle.record.specs.Layout.{fieldsOf, bytesOf}
-use Rattle.record.specs.Record.{read, write, requestFields, requestQuestions, messageQuestions, readWith, writeWith}
+use Rattle.record.specs.Kind.{read, write}
+use Rattle.record.specs.Record.{requestFields, requestQuestions, messageQuestions, readWith, writeWith}
 use Rattle.rules.specs.Batch.{handle}
 use Rattle.rules.specs.Replica.{admit, deliver, handleBatch, visit, visits, writeAll, stepped, step}
 use Rattle.rules.specs.Run.{messagesIn}

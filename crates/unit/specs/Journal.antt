@@ -4,7 +4,7 @@ use mathlib.Core.List.{List, [], _∷_, _++_, map}
 use lib.ListN.{length, take, drop, getD, set, replicate}
 use Rattle.question.specs.Question.{Answer, given, refused}
 use Rattle.rules.specs.Lists.{upTo}
-use Rattle.rules.specs.Batch.{Settings}
+use Rattle.rules.specs.declared.Settings.{Settings}
 use Rattle.rules.specs.Replica.{State, Stepped, newState}
 use Rattle.entry.specs.Entry.{Entry, delivery, turn, readSetup, readEntry}
 use Rattle.unit.specs.Play.{playEntry}

@@ -5,7 +5,7 @@ use mathlib.Core.List.{List, [], _∷_, _++_}
 use lib.Dec.{eqb, leb}
 use lib.ListN.{take}
 use Rattle.io.specs.Digits.{digits}
-use Rattle.record.specs.Record.{reply}
+use Rattle.record.specs.Kind.{reply}
 use Rattle.record.specs.declared.message.Message.{Message}
 use Rattle.rules.specs.Lists.{tally}
 use Rattle.rules.specs.Batch.{valueOf}

@@ -2,11 +2,11 @@ use Prim.Native.Nat.{ℕ}
 use mathlib.Core.Path.{_≡_, sym, _∙_}
 use mathlib.Core.Bool.{Bool, true, false, _&&_}
 use borrow.Author.Needs.{needs}
-use Rattle.question.proofs.Questions.{both}
+use Rattle.question.proofs.Tests.{both}
 use Rattle.record.specs.declared.message.Message.{Message}
 use Rattle.rules.specs.Vote.{passes, counts, halts}
 use Rattle.rules.specs.declared.Query.{Query}
-use Rattle.laws.proofs.Lists.{case, true-not-false}
+use Rattle.question.proofs.Tests.{case, true-not-false}
 use Rattle.ballot.specs.Sets.{lacks}
 use Rattle.ballot.specs.Ballot.{hearReply, hearHalt, answers, tellsHalt, hear}
 use Rattle.ballot.specs.declared.ballot.Ballot.{Ballot}

@@ -2,7 +2,7 @@ use Prim.Native.Nat.{ℕ}
 use mathlib.Core.Path.{_≡_, sym, _∙_}
 use mathlib.Core.Bool.{true, false}
 use borrow.Author.Needs.{needs}
-use Rattle.question.proofs.Questions.{within-true}
+use Rattle.question.proofs.Tests.{within-true}
 use Rattle.ballot.specs.Sets.{isReplica, with}
 use Rattle.ballot.specs.Ballot.{hearHalt}
 use Rattle.ballot.specs.declared.ballot.Ballot.{Ballot}

@@ -4,7 +4,7 @@ use mathlib.Core.Bool.{true, not}
 use lib.ListN.{set}
 use native.Mathlib.Omega.{arith}
 use borrow.Author.Needs.{needs}
-use Rattle.question.proofs.Questions.{both, within-true}
+use Rattle.question.proofs.Tests.{both, within-true}
 use Rattle.ballot.specs.Sets.{isReplica, has, lacks, with}
 use Rattle.ballot.specs.Ballot.{hearReply}
 use Rattle.ballot.specs.declared.ballot.Ballot.{Ballot}

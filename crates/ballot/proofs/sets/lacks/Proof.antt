@@ -2,7 +2,7 @@ use Prim.Native.Nat.{ℕ}
 use mathlib.Core.Path.{_≡_, sym, _∙_}
 use mathlib.Core.Bool.{Bool, true, false, not}
 use borrow.Author.Needs.{needs}
-use Rattle.question.proofs.Questions.{within-true}
+use Rattle.question.proofs.Tests.{within-true}
 use Rattle.ballot.specs.Sets.{isReplica, has, lacks}
 use Rattle.ballot.proofs.sets.lacks.Statement.{statement}
 use Rattle.ballot.proofs.sets.lacks.Tie as tie

@@ -5,7 +5,7 @@ use native.Mathlib.Omega.{arith}
 use lib.Dec.{ltb}
 use borrow.Author.Tests.{lt-ltb, ltb-true, ltb-false, le-ltb}
 use borrow.Author.Needs.{needs}
-use Rattle.laws.proofs.Lists.{case}
+use Rattle.question.proofs.Tests.{case}
 use Rattle.batch.proofs.pending.is_late.Statement.{statement}
 use Rattle.batch.proofs.pending.is_late.Tie as tie
 

@@ -1,6 +1,6 @@
 -- The kind decides between the two; each call adds its part.
 use borrow.Author.Tests.{eq-eqb, ne-eqb}
-use Rattle.record.specs.Record.{reply}
+use Rattle.record.specs.Kind.{reply}
 use Rattle.unit.specs.Text.{replyWord, haltWord, firstFour, textOf}
 use Rattle.unit.proofs.Lines.{Written, after, more, ended}
 use native.Mathlib.Omega.{arith}

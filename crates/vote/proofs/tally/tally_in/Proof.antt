@@ -54,7 +54,7 @@ use Rattle.record.proofs.message.Message.Laws as T′
 use Rattle.rules.specs.declared.Query.{Query}
 use Rattle.rules.proofs.Query as Q
 use Rattle.rules.proofs.Query.Laws as Q′
-use Rattle.laws.proofs.Lists.{case}
+use Rattle.question.proofs.Tests.{case}
 use Rattle.ballot.specs.Ballot.{ballotOf}
 use Rattle.ballot.specs.declared.ballot.Ballot.{Ballot}
 use Rattle.vote.proofs.Tallied.{TallyC, Own, to-tally, tally-asked, tally-said}
