@@ -1,9 +1,10 @@
 -- Unanimity, request by request: each is a write like the first, and its sender has not been seen.
-use Prim.Native.Nat.{ℕ, _+_, _<_}
+use Prim.Native.Nat.{ℕ, _+_, _<_, _≤_}
 use mathlib.Core.Path.{_≡_, refl, sym}
 use mathlib.Core.Bool.{Bool, true, false, cond, not, _&&_, _||_, and-assoc, and-comm, and-true, and-false, or-true, or-false}
 use mathlib.Core.List.{List, [], _∷_}
 use native.Mathlib.Omega.{arith}
+use mir.Val.{boolByte}
 use lib.Dec.{eqb, ltb}
 use lib.ListN.{length, getD, set, replicate, getD-replicate, length-replicate, List·getD-eq-default}
 use lib.Seq.{set-getD, getD-set-same, getD-set-other}
@@ -15,7 +16,9 @@ use Rattle.record.specs.Kind.{isRead, isWrite, sameWrite}
 use Rattle.rules.specs.Batch.{allReads, allSame, allSendersDiffer, unanimous}
 use Rattle.rules.specs.declared.Pending.{Pending}
 use Rattle.question.proofs.Tests.{case}
-use Rattle.batch.specs.Head.{inBatch, batchAt, firstOf}
+use Rattle.rules.specs.Replica.{inBatch}
+use Rattle.rules.specs.Batch.{firstOf}
+use Rattle.batch.specs.Head.{requestsAt}
 
 module _ (group : ℕ) (t : Timestamp) (p : Pending) (rest : List Pending) where
   abbrev mine : Bool
@@ -23,14 +26,19 @@ module _ (group : ℕ) (t : Timestamp) (p : Pending) (rest : List Pending) where
 
   -- one more request, whether or not it is of the batch
   pub reads-step : (all : Bool)
-      → (all && (not mine || isRead (p .request))) && allReads (batchAt group t rest) ≡ all && allReads (batchAt group t (p ∷ rest))
+      → (all && (not mine || isRead (p .request))) && allReads (requestsAt group t rest) ≡ all && allReads (requestsAt group t (p ∷ rest))
   reads-step all =
       case mine
-      (λ e. rw e (and-assoc all (isRead (p .request)) (allReads (batchAt group t rest))))
+      (λ e. rw e (and-assoc all (isRead (p .request)) (allReads (requestsAt group t rest))))
       (λ e. rw (e, and-true all))
 
-  pub size-step : (size : ℕ) → size + cond mine 1 0 + length (batchAt group t rest) ≡ size + length (batchAt group t (p ∷ rest))
+  pub size-step : (size : ℕ) → size + boolByte mine + length (requestsAt group t rest) ≡ size + length (requestsAt group t (p ∷ rest))
   size-step size = case mine (λ e. rw e (omega arith)) (λ e. rw e (omega arith))
+
+-- a test counts for one at most
+pub byte-one : (b : Bool) → boolByte b ≤ 1
+byte-one true = omega arith
+byte-one false = omega arith
 
 -- ── unanimity ──
 
@@ -65,10 +73,10 @@ module _ (first : Request) where
     -- one more request, whether or not it is of the batch: whether its sender was seen, and is from now on
     pub agree-step : (same : Bool) {mine is : Bool} → mine ≡ inBatch group t p → is ≡ was || inBatch group t p
         → (same && (not mine || ((isWrite (p .request) && sameWrite first (p .request)) && not was)))
-        && agree (set seen (p .request .process) is) (batchAt group t rest)
-        ≡ same && agree seen (batchAt group t (p ∷ rest))
+        && agree (set seen (p .request .process) is) (requestsAt group t rest)
+        ≡ same && agree seen (requestsAt group t (p ∷ rest))
     agree-step same m i =
-        let batch = batchAt group t rest in
+        let batch = requestsAt group t rest in
         let d = allSendersDiffer batch in
         let f = not (some (λ q. eqb (p .request .process) (q .process)) batch) in
         case (inBatch group t p)

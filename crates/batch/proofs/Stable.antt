@@ -15,7 +15,7 @@ use Rattle.rules.specs.Lists.{keep, some}
 use Rattle.rules.specs.Replica.{stamped, lowest, requestsOf, ofGroup, groupTimestamp, batchOf, earlier, earliest, isStable}
 use Rattle.rules.specs.declared.Pending.{Pending}
 use Rattle.question.proofs.Tests.{case}
-use Rattle.laws.proofs.Least.{lowest-start}
+use Rattle.laws.proofs.Least.{lowest-start, batchAt-group}
 use Rattle.batch.specs.Head.{join, headFrom, headIn, isLate, whereLate}
 use Rattle.batch.specs.declared.pending.Head.{Head}
 use Rattle.batch.specs.declared.pending.Head.the-variants.{Nothing, At}
@@ -139,9 +139,10 @@ module _ (delta : ℕ) (now : LocalTime) where
     head-is (p ∷ l) = case (ofGroup group p)
         (λ e.
         let mineToo = p ∷ mine l in
-        let with-t : Pending → Bool = λ q. stamped (lowest (p .request .timestamp) (requestsOf (mine l))) (q .request) in
+        let t = lowest (p .request .timestamp) (requestsOf (mine l)) in
+        let with-t : Pending → Bool = λ q. stamped t (q .request) in
         let stable = stable-late (keep with-t mineToo) ∙ some-keep with-t (λ q. late (q .arrival)) mineToo in
-        rw e (inr (found-as refl (sym stable) (head-from (p .request .timestamp) (p .arrival) l))))
+        rw (batchAt-group group (groupTimestamp group (p ∷ l)) (p ∷ l), e) (inr (found-as refl (sym stable) (head-from (p .request .timestamp) (p .arrival) l))))
         (λ e. rw e (head-is l))
 
   module _ (group : ℕ) (l : List Pending) where
@@ -160,7 +161,7 @@ module _ (delta : ℕ) (now : LocalTime) where
     -- where none is found late, the batch is not stable
     pub late-no : whereLate delta now (headIn group l) ≡ Nothing → isStable delta now (batchOf group l) ≡ false
     late-no e = ⊎-elim
-        (λ n. rw (n .1))
+        (λ n. rw (batchAt-group group (groupTimestamp group l) l, n .1))
         (λ f. case (isStable delta now (batchOf group l))
         (λ b.
         let z : At (groupTimestamp group l) (f .first) ≡ Nothing = rw (f .is, f .lateness, b) at e in

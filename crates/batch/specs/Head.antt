@@ -1,15 +1,13 @@
 -- The head of a group as the code finds it, request by request: its least timestamp and first arrival.
 use Prim.Native.Nat.{ℕ, _+_}
-use mathlib.Core.Bool.{Bool, cond, _&&_}
+use mathlib.Core.Bool.{Bool, cond}
 use mathlib.Core.List.{List, [], _∷_}
 use lib.Dec.{eqb, ltb}
 use Rattle.record.specs.declared.clock.Timestamp.{Timestamp}
 use Rattle.record.specs.declared.clock.LocalTime.{LocalTime}
 use Rattle.record.specs.declared.request.Request.{Request}
-use Rattle.rules.specs.Lists.{keep}
-use Rattle.rules.specs.Replica.{stamped, requestsOf, ofGroup, earlier}
+use Rattle.rules.specs.Replica.{requestsOf, batchAt, earlier}
 use Rattle.rules.specs.declared.Pending.{Pending}
-use Rattle.batch.specs.State.{blankRequest}
 use Rattle.batch.specs.declared.pending.Head.{Head}
 use Rattle.batch.specs.declared.pending.Head.the-variants.{Nothing, At}
 
@@ -38,14 +36,7 @@ abbrev pub whereLate : ℕ → LocalTime → Head → Head
 whereLate delta at Nothing = Nothing
 whereLate delta at (At t first) = cond (isLate first delta at) (At t first) Nothing
 
--- ── the batch of a group and a timestamp ──
+-- ── the requests of a group with a timestamp ──
 
-abbrev pub inBatch : ℕ → Timestamp → Pending → Bool
-inBatch group t p = ofGroup group p && stamped t (p .request)
-
-abbrev pub batchAt : ℕ → Timestamp → List Pending → List Request
-batchAt group t pending = requestsOf (keep (inBatch group t) pending)
-
-abbrev pub firstOf : List Request → Request
-firstOf [] = blankRequest
-firstOf (r ∷ batch) = r
+abbrev pub requestsAt : ℕ → Timestamp → List Pending → List Request
+requestsAt group t pending = requestsOf (batchAt group t pending)

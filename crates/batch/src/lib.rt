@@ -15,7 +15,6 @@ pub use pending::in_batch;
 pub use pending::stable_head;
 pub use pending::take_off;
 pub use queue::Queue;
-pub use queue::blank_request;
 pub use queue::pending_count;
 pub use state::Replica;
 pub use unanimity::all_reads;

@@ -2,9 +2,9 @@
 ghost use mathlib.Core.Path.{_≡_};
 ghost use mathlib.Core.Bool.{not};
 ghost use Rattle.rules.specs.Lists.{keep};
-ghost use Rattle.rules.specs.Replica.{earlier};
+ghost use Rattle.rules.specs.Replica.{earlier, inBatch};
 ghost use Rattle.batch.specs.State.{waiting};
-ghost use Rattle.batch.specs.Head.{meet, join, headIn, isLate, whereLate, inBatch};
+ghost use Rattle.batch.specs.Head.{meet, join, headIn, isLate, whereLate};
 use crate::queue::Queue;
 use crate::queue::pending_count;
 use record::LocalTime;

@@ -1,19 +1,17 @@
 // The replica's struct, passed and returned by value.
 use crate::queue::Queue;
+use limits::VARIABLES;
 use record::LocalTime;
+use rules::Settings;
 
 #[repr(C)]
 pub struct Replica {
-    pub k: u8,
-    // Document 01's N.
-    pub groups: u8,
-    pub owner: u8,
+    pub settings: Settings,
     // Its own number among the replicas.
     pub number: u8,
-    pub delta: u64,
     // The last accepted local time.
     pub last: LocalTime,
-    pub variables: [u32; 256],
+    pub variables: [u32; VARIABLES],
     pub queue: Queue,
     pub writes: u64,
 }

@@ -1,22 +1,16 @@
 // What a batch is: all reads, or a unanimous write.
 ghost use mathlib.Core.Path.{_≡_};
-ghost use Prim.Native.Nat.{_≤_};
-ghost use mathlib.Core.Bool.{cond, _&&_};
-ghost use Rattle.record.specs.Kind.{isWrite, sameWrite};
-ghost use Rattle.rules.specs.Batch.{allReads, unanimous};
+ghost use Rattle.rules.specs.Batch.{allReads, firstOf, unanimous};
 ghost use Rattle.batch.specs.State.{waiting};
-ghost use Rattle.batch.specs.Head.{batchAt, firstOf};
+ghost use Rattle.batch.specs.Head.{requestsAt};
 use crate::pending::in_batch;
 use crate::queue::Queue;
-use crate::queue::blank_request;
 use crate::queue::pending_count;
-use record::READ;
 use record::Request;
 use record::Timestamp;
-use record::WRITE;
 
 pub fn all_reads(q: Queue, group: u8, t: Timestamp) -> bool
-    ensures { λ b. ⌜ b ≡ allReads (batchAt group t (waiting q)) ⌝ }
+    ensures { λ b. ⌜ b ≡ allReads (requestsAt group t (waiting q)) ⌝ }
 {
     let n = pending_count(q);
     let mut all = true;
@@ -24,7 +18,7 @@ pub fn all_reads(q: Queue, group: u8, t: Timestamp) -> bool
     while i < n {
         let p = q.pending[i];
         let request = p.request;
-        all = all & (!in_batch(group, t, p) | (request.kind == READ));
+        all = all & (!in_batch(group, t, p) | request.is_read());
         i += 1;
     }
     all
@@ -32,7 +26,7 @@ pub fn all_reads(q: Queue, group: u8, t: Timestamp) -> bool
 
 // The first request of the batch, or a blank one.
 pub fn first_of(q: Queue, group: u8, t: Timestamp) -> Request
-    ensures { λ r. ⌜ r ≡ firstOf (batchAt group t (waiting q)) ⌝ }
+    ensures { λ r. ⌜ r ≡ firstOf (requestsAt group t (waiting q)) ⌝ }
 {
     let n = pending_count(q);
     let mut i: usize = 0;
@@ -43,34 +37,20 @@ pub fn first_of(q: Queue, group: u8, t: Timestamp) -> Request
         }
         i += 1;
     }
-    blank_request()
-}
-
-fn one_if(b: bool) -> usize
-    ensures is { λ n. ⌜ n ≡ cond b 1 0 ⌝ }
-    ensures most { λ n. ⌜ n ≤ 1 ⌝ }
-{
-    if b { 1 } else { 0 }
-}
-
-// A write equal to the first one.
-fn agrees(first: Request, q: Request) -> bool
-    ensures { λ b. ⌜ b ≡ isWrite q && sameWrite first q ⌝ }
-{
-    (q.kind == WRITE) & ((first.variable == q.variable) & (first.value == q.value))
+    Request::blank()
 }
 
 // Exactly k + 1 requests, all writes, all from different processes, equal in variable and value.
 pub fn is_unanimous(q: Queue, k: u8, group: u8, t: Timestamp) -> bool
-    ensures { λ b. ⌜ b ≡ unanimous k (batchAt group t (waiting q)) ⌝ }
+    ensures { λ b. ⌜ b ≡ unanimous k (requestsAt group t (waiting q)) ⌝ }
 {
     is_unanimous_from(q, k, group, t, first_of(q, group, t))
 }
 
 // The same, where the first request of the batch is known.
 fn is_unanimous_from(q: Queue, k: u8, group: u8, t: Timestamp, first: Request) -> bool
-    requires { ⌜ first ≡ firstOf (batchAt group t (waiting q)) ⌝ }
-    ensures { λ b. ⌜ b ≡ unanimous k (batchAt group t (waiting q)) ⌝ }
+    requires { ⌜ first ≡ firstOf (requestsAt group t (waiting q)) ⌝ }
+    ensures { λ b. ⌜ b ≡ unanimous k (requestsAt group t (waiting q)) ⌝ }
 {
     let n = pending_count(q);
     let mut seen = [false; 256];
@@ -82,9 +62,9 @@ fn is_unanimous_from(q: Queue, k: u8, group: u8, t: Timestamp, first: Request) -
         let request = p.request;
         let mine = in_batch(group, t, p);
         let sender = request.process as usize;
-        same = same & (!mine | (agrees(first, request) & !seen[sender]));
+        same = same & (!mine | (request.agrees(first) & !seen[sender]));
         seen[sender] = seen[sender] | mine;
-        size += one_if(mine);
+        size += mine as usize;
         i += 1;
     }
     same & (size == k as usize + 1)

@@ -1,57 +1,56 @@
 // Delivery of a request.
 ghost use mathlib.Core.Path.{_≡_};
 ghost use Prim.Native.Nat.{ℕ, _<_};
-ghost use mathlib.Core.List.{[], _∷_};
-ghost use lib.Dec.{ltb};
-ghost use Rattle.question.specs.Question.{_else_, given, refused, ask, bind, next, after, verdict, outcome};
+ghost use Rattle.limits.specs.Limits.{places};
+ghost use Rattle.question.specs.Question.{given, refused, worked, ask, bind, next, after, verdict, outcome};
 ghost use Rattle.record.specs.Record.{requestAnswer, readRequest};
-ghost use Rattle.rules.specs.Replica.{timeQuestions, arrive, deliver};
+ghost use Rattle.rules.specs.Replica.{placeQuestions, arrive, deliver};
 ghost use Rattle.batch.specs.State.{stateOf};
 use batch::Replica;
+use checks::check_time;
+use limits::PLACES;
 use question::Outcome;
-use question::ask;
 use record::LocalTime;
 use record::Request;
 use record::RequestRead;
 use rules::Pending;
+use rules::Settings;
 
 pub struct Delivered {
     pub outcome: Outcome,
     pub replica: Replica,
 }
 
-// Questions 12 and 13.
-pub fn check_time(last: LocalTime, at: LocalTime, rest: Outcome) -> Outcome
-    ensures { λ o. ⌜ outcome o ≡ ask (timeQuestions last at) (outcome rest) ⌝ }
+// Questions 12, 13 and 14. `count` requests are pending.
+fn check_place(last: LocalTime, count: usize, at: LocalTime) -> Outcome
+    ensures { λ o. ⌜ outcome o ≡ ask (placeQuestions last count at) (given worked) ⌝ }
 {
-    let q13 = ask(last.0 <= at.0, 13, rest);
-    ask(at.0 <= 4611686018427387904, 12, q13)
+    check_time(last, at).ask(count < PLACES, 14)
 }
 
-// The request that a delivery brings, or the refusal. `count` requests are pending.
-fn admit(k: u8, n: u8, last: LocalTime, count: usize, bytes: &[u8], at: LocalTime) -> RequestRead
-    ensures { λ a. ⌜ requestAnswer a ≡ bind (readRequest k n (now (bytes .entry))) (λ q. ask (timeQuestions last at) (ask ((ltb count 64 else 14) ∷ []) (given q))) ⌝ }
+// The request, unless something was refused.
+fn unless_refused(o: Outcome, request: Request) -> RequestRead
+    ensures { λ a. ⌜ requestAnswer a ≡ next (outcome o) (given request) ⌝ }
 {
-    let read = record::read_request(k, n, bytes);
-    match check_time(last, at, ask(count < 64, 14, Outcome::Done)) {
-        Outcome::Done => read,
-        Outcome::Refused(number) => refuse_later(read, number),
+    match o {
+        Outcome::Done => RequestRead::Accepted(request),
+        Outcome::Refused(number) => RequestRead::Refused(number),
     }
 }
 
-// The refusal of the record where there is one, and else this later one.
-fn refuse_later(read: RequestRead, number: u8) -> RequestRead
-    ensures { λ a. ⌜ requestAnswer a ≡ next (requestAnswer read) (refused number) ⌝ }
+// The request that a delivery brings, or the refusal.
+fn admit(u: Settings, last: LocalTime, count: usize, bytes: &[u8], at: LocalTime) -> RequestRead
+    ensures { λ a. ⌜ requestAnswer a ≡ bind (readRequest (u .k) (u .groups) (now (bytes .entry))) (λ q. ask (placeQuestions last count at) (given q)) ⌝ }
 {
-    match read {
-        RequestRead::Accepted(_) => RequestRead::Refused(number),
-        RequestRead::Refused(first) => RequestRead::Refused(first),
+    match record::read_request(u.k, u.groups, bytes) {
+        RequestRead::Accepted(request) => unless_refused(check_place(last, count, at), request),
+        RequestRead::Refused(number) => RequestRead::Refused(number),
     }
 }
 
 // The replica with one more pending request.
 fn add_pending(r: Replica, request: Request, at: LocalTime) -> Replica
-    requires { ⌜ r .queue .count < 64 ⌝ }
+    requires { ⌜ r .queue .count < places ⌝ }
     ensures { λ s. ⌜ stateOf s ≡ arrive (stateOf r) request at ⌝ }
 {
     let mut queue = r.queue;
@@ -72,7 +71,7 @@ pub fn deliver(r: Replica, bytes: &[u8], at: LocalTime) -> Delivered
     ensures state { λ d. ⌜ stateOf (d .replica) ≡ after (stateOf r) (deliver (stateOf r) (now (bytes .entry)) at) ⌝ }
     ensures kept { λ d. ⌜ ((q : ℕ) → outcome (d .outcome) ≡ refused q → d .replica ≡ r) ⌝ }
 {
-    match admit(r.k, r.groups, r.last, r.queue.count, bytes, at) {
+    match admit(r.settings, r.last, r.queue.count, bytes, at) {
         RequestRead::Accepted(request) => Delivered {
             outcome: Outcome::Done,
             replica: add_pending(r, request, at),

@@ -5,7 +5,6 @@ mod delivery;
 mod making;
 
 pub use delivery::Delivered;
-pub use delivery::check_time;
 pub use delivery::deliver;
 pub use making::Made;
 pub use making::make;

@@ -10,7 +10,7 @@ use borrow.Author.Needs.{needs}
 use Rattle.rules.specs.Lists.{keep}
 use Rattle.rules.specs.declared.Pending.{Pending}
 use Rattle.batch.specs.State.{waiting, free}
-use Rattle.batch.specs.Head.{inBatch}
+use Rattle.rules.specs.Replica.{inBatch}
 use Rattle.batch.proofs.Left.{left-next, left-none}
 use Rattle.batch.proofs.Compact.{next-same, rest-same, rest-left, front-next}
 use Rattle.batch.proofs.pending.take_off.Statement.{statement}

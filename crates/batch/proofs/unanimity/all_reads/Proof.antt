@@ -7,14 +7,14 @@ use lib.ListN.{getD, drop}
 use borrow.Author.Needs.{needs}
 use Rattle.rules.specs.Batch.{allReads}
 use Rattle.batch.specs.State.{waiting, free}
-use Rattle.batch.specs.Head.{batchAt}
+use Rattle.batch.specs.Head.{requestsAt}
 use Rattle.batch.proofs.Left.{left-next, left-none}
 use Rattle.batch.proofs.Agree.{reads-step}
 use Rattle.batch.proofs.unanimity.all_reads.Statement.{statement}
 use Rattle.batch.proofs.unanimity.all_reads.Tie as tie
 
 abbrev Inv-loop : tie.InvT-loop
-Inv-loop group t r n all₀ i₀ all i = (i ≤ n) × (all && allReads (batchAt group t (drop i (waiting r))) ≡ allReads (batchAt group t (waiting r)))
+Inv-loop group t r n all₀ i₀ all i = (i ≤ n) × (all && allReads (requestsAt group t (drop i (waiting r))) ≡ allReads (requestsAt group t (waiting r)))
 
 abbrev μ-loop : tie.MeasureT-loop
 μ-loop group t r n all₀ i₀ all i = n - i
@@ -34,6 +34,9 @@ element-copy-out-p c = search needs
 in-batch-requires : tie.Need-in-batch-requires Inv-loop μ-loop
 in-batch-requires c κs = search needs
 
+is-read-requires : tie.Need-is-read-requires Inv-loop μ-loop
+is-read-requires c κs = search needs
+
 add-i : tie.Need-add-i Inv-loop μ-loop
 add-i c = search needs
 
@@ -49,7 +52,7 @@ loop-again c =
     let rest = drop (l .loop .i + 1) (waiting r) in
     let next = left-next (r .count) (r .pending) (l .loop .i) free (omega (arith, l .before .pending-count .ensures .0)) in
     let seen = reads-step (a .group) (a .t) p rest (l .loop .all) ∙ (rw next at (l .loop .inv .1)) in
-    (omega arith, rw (c .before .in-batch .ensures) seen)
+    (omega arith, rw (c .is-read .ensures, c .before .in-batch .ensures) seen)
 
 returns : tie.Need-returns Inv-loop μ-loop
 returns c =
@@ -68,6 +71,7 @@ all-reads-spec =
     mul-p
     element-copy-out-p
     in-batch-requires
+    is-read-requires
     add-i
     loop-less
     loop-again

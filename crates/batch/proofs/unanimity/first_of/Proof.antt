@@ -5,13 +5,13 @@ use native.Mathlib.Omega.{arith}
 use lib.ListN.{drop}
 use borrow.Author.Needs.{needs}
 use Rattle.batch.specs.State.{waiting, free}
-use Rattle.batch.specs.Head.{batchAt}
+use Rattle.batch.specs.Head.{requestsAt}
 use Rattle.batch.proofs.Left.{left-next, left-none}
 use Rattle.batch.proofs.unanimity.first_of.Statement.{statement}
 use Rattle.batch.proofs.unanimity.first_of.Tie as tie
 
 abbrev Inv-loop : tie.InvT-loop
-Inv-loop group t r n i₀ i = (i ≤ n) × (batchAt group t (drop i (waiting r)) ≡ batchAt group t (waiting r))
+Inv-loop group t r n i₀ i = (i ≤ n) × (requestsAt group t (drop i (waiting r)) ≡ requestsAt group t (waiting r))
 
 abbrev μ-loop : tie.MeasureT-loop
 μ-loop group t r n i₀ i = n - i
@@ -51,14 +51,14 @@ loop-again c =
     let next = left-next (r .count) (r .pending) (l .loop .i) free (omega (arith, l .before .pending-count .ensures .0)) in
     (omega arith, rw (next, ← c .before .in-batch .ensures, c .if1 .left) at (l .loop .inv .1))
 
-blank-request-requires : tie.Need-blank-request-requires Inv-loop μ-loop
-blank-request-requires c κs = search needs
+blank-requires : tie.Need-blank-requires Inv-loop μ-loop
+blank-requires c κs = search needs
 
 returns-2 : tie.Need-returns-2 Inv-loop μ-loop
 returns-2 c =
     let l = c .before .before in
     let r = l .before .before .args .t1 in
-    rw (← l .loop .inv .1, left-none (r .count) (r .pending) (l .loop .i) (omega (arith, l .before .pending-count .ensures .0))) (c .blank-request .ensures)
+    rw (← l .loop .inv .1, left-none (r .count) (r .pending) (l .loop .i) (omega (arith, l .before .pending-count .ensures .0))) (c .blank .ensures)
 
 pub first-of-spec : {M : Type 1} → statement M
 first-of-spec =
@@ -75,5 +75,5 @@ first-of-spec =
     add-i
     loop-less
     loop-again
-    blank-request-requires
+    blank-requires
     returns-2)

@@ -7,9 +7,9 @@ use native.Mathlib.Omega.{arith}
 use lib.ListN.{length, getD, drop, replicate, length-set}
 use borrow.Author.Needs.{needs}
 use Rattle.batch.specs.State.{waiting, free}
-use Rattle.batch.specs.Head.{batchAt}
+use Rattle.batch.specs.Head.{requestsAt}
 use Rattle.batch.proofs.Left.{left-next, left-none}
-use Rattle.batch.proofs.Agree.{agree, size-step, agree-step, agree-unanimous}
+use Rattle.batch.proofs.Agree.{byte-one, agree, size-step, agree-step, agree-unanimous}
 use Rattle.batch.proofs.unanimity.is_unanimous_from.Statement.{statement}
 use Rattle.batch.proofs.unanimity.is_unanimous_from.Tie as tie
 
@@ -18,8 +18,8 @@ Inv-loop k group t first r n seen₀ size₀ same₀ i₀ seen size same i =
     (i ≤ n)
     × (length seen ≡ 256)
     × (size ≤ i)
-    × (size + length (batchAt group t (drop i (waiting r))) ≡ length (batchAt group t (waiting r)))
-    × (same && agree first seen (batchAt group t (drop i (waiting r))) ≡ agree first (replicate 256 false) (batchAt group t (waiting r)))
+    × (size + length (requestsAt group t (drop i (waiting r))) ≡ length (requestsAt group t (waiting r)))
+    × (same && agree first seen (requestsAt group t (drop i (waiting r))) ≡ agree first (replicate 256 false) (requestsAt group t (waiting r)))
 
 abbrev μ-loop : tie.MeasureT-loop
 μ-loop k group t first r n seen₀ size₀ same₀ i₀ seen size same i = n - i
@@ -54,11 +54,11 @@ array-read-seen c = search needs
 array-write-seen : tie.Need-array-write-seen Inv-loop μ-loop
 array-write-seen c = search needs
 
-one-if-requires : tie.Need-one-if-requires Inv-loop μ-loop
-one-if-requires c κs = search needs
+cast-size : tie.Need-cast-size Inv-loop μ-loop
+cast-size c = search needs
 
 add-size : tie.Need-add-size Inv-loop μ-loop
-add-size c = search needs
+add-size c = omega (arith, byte-one (c .before .before .in-batch .result))
 
 add-i : tie.Need-add-i Inv-loop μ-loop
 add-i c = search needs
@@ -68,20 +68,20 @@ loop-less c = search needs
 
 loop-again : tie.Need-loop-again Inv-loop μ-loop
 loop-again c =
-    let l = c .before .before .before .before .before .before .before in
+    let l = c .before .before .before .before .before .before in
     let a = l .before .before .args in
     let r = a .t1 in
     let inv = l .loop .inv in
     let p = getD (r .pending) (l .loop .i) free in
     let rest = drop (l .loop .i + 1) (waiting r) in
     let next = left-next (r .count) (r .pending) (l .loop .i) free (omega (arith, l .before .pending-count .ensures .0)) in
-    let mine = c .before .before .before .in-batch .ensures in
+    let mine = c .before .before .in-batch .ensures in
     let size = size-step (a .group) (a .t) p rest (l .loop .size) ∙ (rw next at (inv .3)) in (
       omega arith,
       simp length-set (inv .1),
-      omega (arith, c .one-if .ensures .1),
-      rw (c .one-if .ensures .0, mine) size,
-      rw (c .before .agrees .ensures)
+      omega (arith, byte-one (c .before .before .in-batch .result)),
+      rw mine size,
+      rw (c .agrees .ensures)
           (agree-step (a .first) (a .group) (a .t) p rest (l .loop .seen) (omega arith) (l .loop .same) mine (rw mine refl) ∙ (rw next at (inv .4))),
     )
 
@@ -96,7 +96,7 @@ returns c =
     let none = left-none (r .count) (r .pending) (l .loop .i) (omega (arith, l .before .pending-count .ensures .0)) in
     let same = sym (and-true (l .loop .same)) ∙ (rw none at (l .loop .inv .4)) in
     let size = sym (add-zero (l .loop .size)) ∙ (rw none at (l .loop .inv .3)) in
-    agree-unanimous (a .k) (batchAt (a .group) (a .t) (waiting r)) (rw (l .before .before .pre) at same) (rw size refl)
+    agree-unanimous (a .k) (requestsAt (a .group) (a .t) (waiting r)) (rw (l .before .before .pre) at same) (rw size refl)
 
 pub is-unanimous-from-spec : {M : Type 1} → statement M
 is-unanimous-from-spec =
@@ -114,7 +114,7 @@ is-unanimous-from-spec =
     array-read-same
     array-read-seen
     array-write-seen
-    one-if-requires
+    cast-size
     add-size
     add-i
     loop-less

@@ -21,7 +21,7 @@ returns : tie.Need-returns
 returns c =
     let s = c .before in
     let q = s .args .r .queue in
-    let long : length (q .pending) ≡ 64 = sym (length-map (q .pending) _) ∙ s .good .0 .1 .1 .1 .1 .1 .1 .1 .1 .1 .0 .1 .1 .0 .1 .0 .1 in
+    let long : length (q .pending) ≡ 64 = sym (length-map (q .pending) _) ∙ s .good .0 .1 .1 .1 .1 .1 .1 .0 .1 .1 .0 .1 .0 .1 in
     rw (add-one (q .count), take-suc-set (q .pending) (q .count) _ (omega arith))
 
 pub add-pending-spec : {M : Type 1} → statement M

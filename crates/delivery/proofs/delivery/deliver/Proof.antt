@@ -7,13 +7,14 @@ use borrow.Author.Needs.{needs}
 use Rattle.record.specs.Record.{requestAnswer}
 use Rattle.rules.specs.Replica.{admit, deliver}
 use Rattle.batch.specs.State.{stateOf}
-use Rattle.delivery.proofs.Asked.{place-counted, admit-place}
+use Rattle.laws.proofs.Accepted.{admit-admitted}
+use Rattle.delivery.proofs.Asked.{place-counted}
 use Rattle.delivery.proofs.delivery.deliver.Statement.{statement}
 use Rattle.delivery.proofs.delivery.deliver.Tie as tie
 
 -- the array has 64 elements
 long : (c : tie.Start) → length (c .args .r .queue .pending) ≡ 64
-long c = sym (length-map (c .args .r .queue .pending) _) ∙ c .good .0 .1 .1 .1 .1 .1 .1 .1 .1 .1 .0 .1 .1 .0 .1 .0 .1
+long c = sym (length-map (c .args .r .queue .pending) _) ∙ c .good .0 .1 .1 .1 .1 .1 .1 .0 .1 .1 .0 .1 .0 .1
 
 -- what is admitted is what the rules admit
 admitted : (c : tie.After-admit) →
@@ -36,7 +37,7 @@ add-pending-requires c κs =
     let f = c .before .before .before in
     let s = f .before .before in
     let found = sym (admitted f) ∙ ap requestAnswer (c .before .request .given .1) in
-    let place = admit-place (stateOf (s .args .r)) (s .args .bytes .now) (s .args .at) found in
+    let place = admit-admitted (stateOf (s .args .r)) (s .args .bytes .now) (s .args .at) found .room in
     omega (arith, long s, simp length-take at place)
 
 enum-known-number : tie.Need-enum-known-number

@@ -4,20 +4,17 @@ use borrow.Author.Needs.{needs}
 use Rattle.question.specs.Question.{given, next, outcome}
 use Rattle.rules.specs.Replica.{makeQuestions, newState, make}
 use Rattle.question.proofs.Questions.{next-asked}
-use Rattle.batch.specs.State.{settings}
 use Rattle.delivery.proofs.making.make.Statement.{statement}
 use Rattle.delivery.proofs.making.make.Tie as tie
 
 -- the questions, asked by themselves, decide the answer
 decided : (c : tie.After-check-make) →
     let a = c .before .args in
-    let u = settings (a .k) (a .n) (a .owner) (a .delta) in
-    next (outcome (c .check-make .result)) (given (newState u (a .number))) ≡ make u (a .number)
+    next (outcome (c .check-make .result)) (given (newState (a .u) (a .number))) ≡ make (a .u) (a .number)
 unfolding make
 decided c =
     let a = c .before .args in
-    let u = settings (a .k) (a .n) (a .owner) (a .delta) in
-    next-asked (makeQuestions u (a .number)) (given (newState u (a .number))) (outcome (c .check-make .result)) (c .check-make .ensures)
+    next-asked (makeQuestions (a .u) (a .number)) (given (newState (a .u) (a .number))) (outcome (c .check-make .result)) (c .check-make .ensures)
 
 check-make-requires : tie.Need-check-make-requires
 check-make-requires c κs = search needs

@@ -2,11 +2,11 @@ use borrow.Author.Needs.{needs}
 use Rattle.delivery.proofs.making.new_replica.Statement.{statement}
 use Rattle.delivery.proofs.making.new_replica.Tie as tie
 
-blank-request-requires : tie.Need-blank-request-requires
-blank-request-requires c κs = search needs
+blank-requires : tie.Need-blank-requires
+blank-requires c κs = search needs
 
 returns : tie.Need-returns
-returns c = rw (c .blank-request .ensures)
+returns c = rw (c .blank .ensures)
 
 pub new-replica-spec : {M : Type 1} → statement M
-new-replica-spec = tie.close (tie.spec blank-request-requires returns)
+new-replica-spec = tie.close (tie.spec blank-requires returns)

@@ -17,7 +17,7 @@ returns : tie.Need-returns
 returns c =
     let s = c .before .before .before in
     let v = s .args .r .variables in
-    let long : length v ≡ 256 = sym (length-map v _) ∙ s .good .0 .1 .1 .1 .1 .1 .1 .1 .1 .0 .1 .0 .1 in
+    let long : length v ≡ 256 = sym (length-map v _) ∙ s .good .0 .1 .1 .1 .1 .1 .0 .1 .0 .1 in
     rw (c .before .one-more .ensures, set-out v (s .args .q .variable) (s .args .q .value) (omega arith))
 
 mul-next : tie.Need-mul-next

@@ -30,7 +30,7 @@ abbrev μ-loop : tie.MeasureT-loop
 enough : (c : tie.Start Inv-loop μ-loop) → length (waiting (c .args .r .queue)) ≤ 64
 enough c =
     let l = c .args .r .queue .pending in
-    let long : length l ≡ 64 = sym (length-map l _) ∙ c .good .0 .1 .1 .1 .1 .1 .1 .1 .1 .1 .0 .1 .1 .0 .1 .0 .1 in
+    let long : length l ≡ 64 = sym (length-map l _) ∙ c .good .0 .1 .1 .1 .1 .1 .1 .0 .1 .1 .0 .1 .0 .1 in
     rw length-take (omega arith)
 
 -- a head that is found is the group's, and its batch is stable
