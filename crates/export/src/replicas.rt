@@ -5,7 +5,7 @@ ghost use Rattle.question.specs.Question.{given, refused, after, bind, verdict}
 ghost use Rattle.rules.specs.Replica.{make, deliver, step};
 ghost use Rattle.batch.specs.State.{settings, stateOf};
 ghost use Rattle.delivery.specs.Made.{leastState};
-ghost use Rattle.replica.specs.State.{stepAnswer};
+ghost use Rattle.replica.specs.Answer.{stepAnswer};
 ghost use Rattle.export.specs.Result.{refusalOf};
 use crate::records::refusal_of;
 use record::LocalTime;

@@ -10,7 +10,7 @@ use Rattle.rules.specs.declared.Settings.{Settings}
 use Rattle.rules.specs.Replica.{State, Stepped, newState, step}
 use Rattle.rules.specs.Run.{Call, sentBy, call, run}
 use Rattle.batch.specs.State.{stateOf}
-use Rattle.replica.specs.State.{stepAnswer}
+use Rattle.replica.specs.Answer.{stepAnswer}
 use Rattle.replica.specs.Run.{found, Does, delivers, steps, Runs, start, then}
 use Rattle.batch.specs.declared.state.Replica.{Replica}
 use Rattle.replica.specs.declared.stepping.StepAnswer.{StepAnswer}

@@ -9,15 +9,16 @@ use native.Mathlib.Omega.{arith}
 use lib.ListN.{length, take, drop, length-append, length-map, length-drop, take-append-drop, drop-of-length-le}
 use lib.Seq.{take-all, take-add, drop-drop, drop-at}
 use borrow.Rule.Slice.PartMut.{putMid}
-use Rattle.question.specs.Question.{Answer, given, refused, after, unitQuestions}
+use Rattle.question.specs.Question.{Answer, given, refused, after}
 use Rattle.record.specs.Layout.{bytesOf}
-use Rattle.record.specs.Record.{messageQuestions, messageFields, writeMessage}
+use Rattle.record.specs.Record.{messageFields, writeMessage}
+use Rattle.record.specs.declared.kind.Family.the-variants.{Messages}
 use Rattle.record.specs.declared.message.Message.{Message}
 use Rattle.rules.specs.Lists.{upTo}
 use Rattle.rules.specs.Replica.{writeAll}
-use Rattle.question.proofs.Tests.{within-true}
+use Rattle.question.proofs.Tests.{unit-facts}
 use Rattle.record.proofs.Layouts.{length-bytes-of}
-use Rattle.record.proofs.Record.{write-given, write-writable}
+use Rattle.record.proofs.Reading.{write-given, write-writable}
 use Rattle.laws.proofs.Lists.{length-upTo}
 use Rattle.replica.specs.Output.{writeAt}
 
@@ -34,14 +35,13 @@ module _ (k n : ℕ) (m : Message) (d : List ℕ) where
     record24 : k ≤ 3 → 24 ≤ length d → wrote ≡ bytesOf (messageFields m) ++ drop 24 d → Wrote
 
   wrote-is : Wrote
-  unfolding unitQuestions
   wrote-is = go (writeMessage k n m d) refl
     where
       go : (a : Answer (List ℕ)) → writeMessage k n m d ≡ a → Wrote
       go (refused number) e = nothing (ap (after d) e)
       go (given bytes) e =
-          let w = write-writable k n (messageQuestions k n) (messageFields m) d e in
-          record24 (within-true 0 3 k (w .unit .0) .1) (w .room) (ap (after d) (write-given k n (messageQuestions k n) w))
+          let w = write-writable Messages k n (messageFields m) d e in
+          record24 (unit-facts k n (w .unit) .k-high) (w .room) (ap (after d) (write-given Messages k n w))
 
   wrote-rest : drop 24 wrote ≡ drop 24 d
   wrote-rest = go wrote-is

@@ -1,3 +1,3 @@
-pub mod State
+pub mod Answer
 pub mod Output
 pub mod Run

@@ -2,6 +2,7 @@
 use Prim.Native.Nat.{ℕ, _+_, _*_}
 use mathlib.Core.List.{List, _++_}
 use lib.ListN.{length, take, drop}
+use Rattle.limits.specs.Limits.{recordSize}
 use Rattle.record.specs.declared.message.Message.{Message}
 use Rattle.rules.specs.Batch.{Effect}
 use Rattle.rules.specs.Replica.{State, Stepped, writeAll}
@@ -10,7 +11,7 @@ use Rattle.replica.specs.declared.handle.Progress.{Progress}
 
 -- messages written behind the first `count` records
 unfoldable pub writeAt : ℕ → ℕ → ℕ → List Message → List ℕ → List ℕ
-writeAt k n count messages output = take (24 * count) output ++ writeAll k n messages (drop (24 * count) output)
+writeAt k n count messages output = take (recordSize * count) output ++ writeAll k n messages (drop (recordSize * count) output)
 
 -- what an effect leaves where `count` messages were sent before
 abbrev pub sends : ℕ → List ℕ → Effect State → Stepped

@@ -1,15 +1,11 @@
 // One batch: taken off, and handled as Figure 1 says.
 ghost use mathlib.Core.Path.{_≡_};
 ghost use Prim.Native.Nat.{_+_, _≤_};
-ghost use mathlib.Core.List.{[], _∷_};
-ghost use mathlib.Core.Bool.{_&&_, not};
-ghost use lib.Dec.{eqb};
+ghost use mathlib.Core.Bool.{not};
 ghost use Rattle.rules.specs.Lists.{keep};
-ghost use Rattle.rules.specs.Batch.{failed, oneMore, perform, fail};
-ghost use Rattle.rules.specs.Replica.{groupTimestamp, handleBatch};
-ghost use Rattle.batch.specs.State.{waiting, stateOf, withPending};
-ghost use Rattle.batch.specs.Head.{inBatch};
-ghost use Rattle.replica.specs.State.{withStore};
+ghost use Rattle.rules.specs.Batch.{oneMore, perform, fail, mayChange};
+ghost use Rattle.rules.specs.Replica.{withStore, withPending, groupTimestamp, inBatch, handleBatch};
+ghost use Rattle.batch.specs.State.{waiting, stateOf};
 ghost use Rattle.replica.specs.Output.{sends, reached};
 use crate::output::send_halts;
 use crate::output::send_replies;
@@ -18,6 +14,7 @@ use batch::all_reads;
 use batch::first_of;
 use batch::is_unanimous;
 use batch::take_off;
+use limits::VARIABLES;
 use record::Request;
 use record::Timestamp;
 
@@ -29,9 +26,9 @@ pub struct Progress {
 
 // The owner's batch, and the store has not failed.
 fn may_change(r: Replica, group: u8) -> bool
-    ensures { λ b. ⌜ b ≡ eqb group (r .owner) && not (failed (stateOf r .store)) ⌝ }
+    ensures { λ b. ⌜ b ≡ mayChange (r .settings) group (stateOf r .store) ⌝ }
 {
-    (group == r.owner) & !(r.variables[0] == 1)
+    (group == r.settings.owner) & !(r.variables[0] == 1)
 }
 
 // The count of writes, one more; it holds at its greatest.
@@ -47,12 +44,12 @@ fn one_more(writes: u64) -> u64
 
 // The variable takes the value. A variable past the array is nowhere.
 fn performed(r: Replica, q: Request) -> Replica
-    ensures { λ s. ⌜ stateOf s ≡ withStore (perform (q ∷ []) (stateOf r .store)) (stateOf r) ⌝ }
+    ensures { λ s. ⌜ stateOf s ≡ withStore (perform q (stateOf r .store)) (stateOf r) ⌝ }
 {
     let i = q.variable as usize;
     let mut next = r;
     next.writes = one_more(r.writes);
-    if 256 <= i {
+    if VARIABLES <= i {
         return next;
     }
     next.variables[i] = q.value;
@@ -103,7 +100,7 @@ pub(crate) fn handle_batch(
             count,
         };
     }
-    if is_unanimous(r.queue, r.k, group, t) {
+    if is_unanimous(r.queue, r.settings.k, group, t) {
         return Progress {
             replica: performed(rest, first_of(r.queue, group, t)),
             count,

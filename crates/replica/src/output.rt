@@ -6,11 +6,13 @@ ghost use mathlib.Core.List.{[], _∷_, map};
 ghost use lib.ListN.{length, getD};
 ghost use Rattle.rules.specs.Batch.{Store, replyTo, haltTo, haltAll};
 ghost use Rattle.batch.specs.State.{waiting, stateOf};
-ghost use Rattle.batch.specs.Head.{batchAt};
+ghost use Rattle.batch.specs.Head.{requestsAt};
 ghost use Rattle.replica.specs.Output.{writeAt};
 use batch::Replica;
 use batch::in_batch;
 use batch::pending_count;
+use limits::MAX_K;
+use limits::RECORD;
 use record::HALT;
 use record::Message;
 use record::REPLY;
@@ -21,8 +23,8 @@ use record::Timestamp;
 fn put(k: u8, n: u8, m: Message, output: &mut [u8], count: usize)
     ensures { λ _. ⌜ now (output .exit) ≡ writeAt k n count (m ∷ []) (now (output .entry)) ⌝ }
 {
-    if count < output.len() / 24 {
-        let at = count * 24;
+    if count < output.len() / RECORD {
+        let at = count * RECORD;
         record::write_message(k, n, m, &mut output[at..]);
     }
 }
@@ -76,9 +78,9 @@ pub(crate) fn send_replies(
     count: usize,
 ) -> usize
     requires { ⌜ count ≤ 1000000000 ⌝ }
-    ensures count { λ c. ⌜ c ≡ count + length (batchAt group t (waiting (r .queue))) ⌝ }
+    ensures count { λ c. ⌜ c ≡ count + length (requestsAt group t (waiting (r .queue))) ⌝ }
     ensures most { λ c. ⌜ c ≤ count + 64 ⌝ }
-    ensures output { λ c. ⌜ now (output .exit) ≡ writeAt (r .k) (r .groups) count (map (replyTo (stateOf r .store) (r .number)) (batchAt group t (waiting (r .queue)))) (now (output .entry)) ⌝ }
+    ensures output { λ c. ⌜ now (output .exit) ≡ writeAt (r .settings .k) (r .settings .groups) count (map (replyTo (stateOf r .store) (r .number)) (requestsAt group t (waiting (r .queue)))) (now (output .entry)) ⌝ }
 {
     let q = r.queue;
     let n = pending_count(q);
@@ -89,8 +91,8 @@ pub(crate) fn send_replies(
         if in_batch(group, t, p) {
             let request = p.request;
             put(
-                r.k,
-                r.groups,
+                r.settings.k,
+                r.settings.groups,
                 reply_to(&r.variables, r.number, request),
                 output,
                 next,
@@ -112,12 +114,12 @@ pub(crate) fn send_halts(
     count: usize,
 ) -> usize
     requires { ⌜ count ≤ 1000000000 ⌝ }
-    ensures count { λ c. ⌜ c ≡ count + length (haltAll (r .k) group (r .number) t) ⌝ }
+    ensures count { λ c. ⌜ c ≡ count + length (haltAll (r .settings .k) group (r .number) t) ⌝ }
     ensures most { λ c. ⌜ c ≤ count + 256 ⌝ }
-    ensures output { λ c. ⌜ now (output .exit) ≡ writeAt (r .k) (r .groups) count (haltAll (r .k) group (r .number) t) (now (output .entry)) ⌝ }
+    ensures output { λ c. ⌜ now (output .exit) ≡ writeAt (r .settings .k) (r .settings .groups) count (haltAll (r .settings .k) group (r .number) t) (now (output .entry)) ⌝ }
 {
-    let k = r.k;
-    if 3 < k {
+    let k = r.settings.k;
+    if MAX_K < k {
         return count + k as usize + 1;
     }
     let last = k + 1;
@@ -127,7 +129,7 @@ pub(crate) fn send_halts(
         process += 1;
         put(
             k,
-            r.groups,
+            r.settings.groups,
             halt_to(group, r.number, t, process),
             output,
             next,

@@ -1,21 +1,19 @@
 // A step (document 01's turn): one pass of Figure 1's major loop.
 ghost use mathlib.Core.Path.{_≡_};
 ghost use Prim.Native.Nat.{ℕ};
-ghost use mathlib.Core.List.{[], _∷_};
-ghost use lib.Dec.{leb};
-ghost use Rattle.question.specs.Question.{_else_, given, refused, worked, ask, bind, after, outcome};
-ghost use Rattle.rules.specs.Replica.{timeQuestions, visits, atTime, step};
+ghost use Rattle.question.specs.Question.{given, refused, worked, ask, mapAnswer, after, outcome};
+ghost use Rattle.rules.specs.Replica.{visits, atTime, stepQuestions, step};
 ghost use Rattle.batch.specs.State.{stateOf};
-ghost use Rattle.replica.specs.State.{stepAnswer};
+ghost use Rattle.replica.specs.Answer.{stepAnswer};
 ghost use Rattle.replica.specs.Output.{sends, reached};
 use crate::handle::Progress;
 use crate::handle::handle_batch;
 use batch::Head;
 use batch::Replica;
 use batch::stable_head;
-use delivery::check_time;
+use checks::check_time;
+use limits::OUTPUT;
 use question::Outcome;
-use question::ask;
 use record::LocalTime;
 
 pub enum StepAnswer {
@@ -31,23 +29,23 @@ pub struct Stepped {
 
 // Questions 12, 13 and 15.
 fn check_step(last: LocalTime, at: LocalTime, room: usize) -> Outcome
-    ensures { λ o. ⌜ outcome o ≡ ask (timeQuestions last at) (ask ((leb 1608 room else 15) ∷ []) (given worked)) ⌝ }
+    ensures { λ o. ⌜ outcome o ≡ ask (stepQuestions last at room) (given worked) ⌝ }
 {
-    check_time(last, at, ask(1608 <= room, 15, Outcome::Done))
+    check_time(last, at).ask(OUTPUT <= room, 15)
 }
 
 // The visits of groups 1 to N: while a group's batch is stable, that batch is handled. It is one loop,
 // since a call for each group would copy the replica.
 fn visits(r: Replica, at: LocalTime, output: &mut [u8]) -> Progress
-    ensures { λ q. ⌜ reached q (now (output .exit)) ≡ sends 0 (now (output .entry)) (visits (r .groups) at (stateOf r)) ⌝ }
+    ensures { λ q. ⌜ reached q (now (output .exit)) ≡ sends 0 (now (output .entry)) (visits (r .settings .groups) at (stateOf r)) ⌝ }
 {
-    let n = r.groups;
+    let n = r.settings.groups;
     let mut replica = r;
     let mut count: usize = 0;
     // How many groups are done.
     let mut group: u8 = 0;
     while group < n {
-        match stable_head(replica.queue, group + 1, replica.delta, at) {
+        match stable_head(replica.queue, group + 1, replica.settings.delta, at) {
             Head::Nothing => {
                 group += 1;
             }
@@ -62,7 +60,7 @@ fn visits(r: Replica, at: LocalTime, output: &mut [u8]) -> Progress
 }
 
 fn at_time(r: Replica, at: LocalTime) -> Replica
-    ensures { λ s. ⌜ stateOf s ≡ atTime (stateOf r) at ⌝ }
+    ensures { λ s. ⌜ stateOf s ≡ atTime at (stateOf r) ⌝ }
 {
     let mut next = r;
     next.last = at;
@@ -70,9 +68,9 @@ fn at_time(r: Replica, at: LocalTime) -> Replica
 }
 
 pub fn step(r: Replica, at: LocalTime, output: &mut [u8]) -> Stepped
-    ensures answer { λ s. ⌜ stepAnswer (s .answer) ≡ bind (step (stateOf r) at (now (output .entry))) (λ d. given (d .count)) ⌝ }
-    ensures state { λ s. ⌜ stateOf (s .replica) ≡ after (stateOf r) (bind (step (stateOf r) at (now (output .entry))) (λ d. given (d .state))) ⌝ }
-    ensures output { λ s. ⌜ now (output .exit) ≡ after (now (output .entry)) (bind (step (stateOf r) at (now (output .entry))) (λ d. given (d .output))) ⌝ }
+    ensures answer { λ s. ⌜ stepAnswer (s .answer) ≡ mapAnswer (λ d. d .count) (step (stateOf r) at (now (output .entry))) ⌝ }
+    ensures state { λ s. ⌜ stateOf (s .replica) ≡ after (stateOf r) (mapAnswer (λ d. d .state) (step (stateOf r) at (now (output .entry)))) ⌝ }
+    ensures output { λ s. ⌜ now (output .exit) ≡ after (now (output .entry)) (mapAnswer (λ d. d .output) (step (stateOf r) at (now (output .entry)))) ⌝ }
     ensures kept { λ s. ⌜ ((q : ℕ) → stepAnswer (s .answer) ≡ refused q → s .replica ≡ r) ⌝ }
 {
     match check_step(r.last, at, output.len()) {

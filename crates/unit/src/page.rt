@@ -6,7 +6,7 @@ ghost use Prim.Native.Nat.{_≤_};
 ghost use Rattle.record.specs.Record.{readMessage};
 ghost use Rattle.rules.specs.Run.{accepted, messagesIn};
 ghost use Rattle.batch.specs.State.{stateOf};
-ghost use Rattle.replica.specs.State.{stepAnswer};
+ghost use Rattle.replica.specs.Answer.{stepAnswer};
 ghost use Rattle.unit.specs.Text.{textOf, messageLine, refusalLine, cardLine};
 ghost use Rattle.unit.specs.Page.{answerLines, page, putLine, putLines};
 use crate::text::Line;

@@ -5,7 +5,7 @@ ghost use lib.ListN.{take, drop};
 ghost use Rattle.question.specs.Question.{given, refused, bind, after, next, outcome};
 ghost use Rattle.rules.specs.Replica.{deliver, step};
 ghost use Rattle.batch.specs.State.{stateOf};
-ghost use Rattle.replica.specs.State.{stepAnswer};
+ghost use Rattle.replica.specs.Answer.{stepAnswer};
 ghost use Rattle.entry.specs.Entry.{entryAnswer};
 ghost use Rattle.unit.specs.Play.{playOn};
 use entry::EntryRead;

@@ -1,7 +1,6 @@
 -- Each way through the code is one of the four things that may come of a batch.
 use Prim.Native.Nat.{ℕ, _+_}
 use mathlib.Core.Path.{refl, sym, ap, _∙_}
-use mathlib.Core.List.{[], _∷_}
 use native.Mathlib.Omega.{arith}
 use lib.ListN.{length-map}
 use borrow.Author.Tests.{not-true, not-false}
@@ -9,8 +8,8 @@ use borrow.Author.Needs.{needs}
 use Rattle.rules.specs.Batch.{perform, fail, replyTo}
 use Rattle.rules.specs.Replica.{State}
 use Rattle.batch.specs.State.{waiting, stateOf}
-use Rattle.replica.specs.State.{withStore}
-use Rattle.batch.specs.Head.{batchAt}
+use Rattle.rules.specs.Replica.{withStore}
+use Rattle.batch.specs.Head.{requestsAt}
 use Rattle.replica.proofs.Handled.{handled-reads, handled-still, handled-write, handled-fails}
 use Rattle.replica.proofs.Sends.{stepped-is, sends-as, sends-still}
 use Rattle.replica.proofs.handle.handle_batch.Statement.{statement}
@@ -36,7 +35,7 @@ returns c =
     let a = start .args in
     let s = stateOf (a .r) in
     let yes = sym (reads .all-reads .ensures) ∙ sent .before .before .if1 .taken in
-    let same = sym (length-map (batchAt (a .group) (a .t) (waiting (a .r .queue))) (replyTo (s .store) (s .number))) in
+    let same = sym (length-map (requestsAt (a .group) (a .t) (waiting (a .r .queue))) (replyTo (s .store) (s .number))) in
     let amount = sent .send-replies .ensures .0 ∙ ap (λ (n : ℕ). a .count + n) same in (
       sends-as (a .count) (a .output .now) (handled-reads (a .group) (a .t) s (start .pre .0) yes)
           (stepped-is (c .without .ensures) amount (sent .send-replies .ensures .1 .1)),
@@ -86,7 +85,7 @@ returns-3 c =
     let all = sym (unanimous .is-unanimous .ensures) ∙ first .before .if3 .taken in
     let state =
     c .performed .ensures
-    ∙ ap (λ (x : State). withStore (perform (first .first-of .result ∷ []) (x .store)) x) (rest .without2 .ensures) in (
+    ∙ ap (λ (x : State). withStore (perform (first .first-of .result) (x .store)) x) (rest .without2 .ensures) in (
       sends-as (a .count) (a .output .now) (handled-write (a .group) (a .t) (stateOf (a .r)) (start .pre .0) no may all)
           (stepped-is (rw (first .first-of .ensures) at state) refl refl ∙ sym (sends-still (a .count) (a .output .now) _)),
       omega arith,

@@ -18,7 +18,7 @@ Inv-loop r group t output₀ count k last next₀ process₀ output next process
     (process ≤ last)
     × (next ≡ count + process)
     × (length output ≡ length output₀)
-    × (output ≡ writeAt k (r .groups) count (map (haltTo group (r .number) t) (upTo process)) output₀)
+    × (output ≡ writeAt k (r .settings .groups) count (map (haltTo group (r .number) t) (upTo process)) output₀)
 
 abbrev μ-loop : tie.MeasureT-loop
 μ-loop r group t output₀ count k last next₀ process₀ output next process = last - process
@@ -35,8 +35,8 @@ add-result-2 c = search needs
 returns : tie.Need-returns Inv-loop μ-loop
 returns c =
     let a = c .before .before .args in
-    let long = length-map (upTo (a .r .k + 1)) (haltTo (a .group) (a .r .number) (a .t)) in
-    (omega (arith, long, length-upTo (a .r .k + 1)), (omega arith, sym (write-no-unit (a .r .k) (a .r .groups) (a .count) _ (a .output .now) (c .if1 .taken))))
+    let long = length-map (upTo (a .r .settings .k + 1)) (haltTo (a .group) (a .r .number) (a .t)) in
+    (omega (arith, long, length-upTo (a .r .settings .k + 1)), (omega arith, sym (write-no-unit (a .r .settings .k) (a .r .settings .groups) (a .count) _ (a .output .now) (c .if1 .taken))))
 
 add-last : tie.Need-add-last Inv-loop μ-loop
 add-last c = search needs
@@ -44,7 +44,7 @@ add-last c = search needs
 loop-holds : tie.Need-loop-holds Inv-loop μ-loop
 loop-holds c =
     let a = c .before .before .args in
-    (omega arith, omega arith, refl, sym (write-none (a .r .k) (a .r .groups) (a .count) (a .output .now)))
+    (omega arith, omega arith, refl, sym (write-none (a .r .settings .k) (a .r .settings .groups) (a .count) (a .output .now)))
 
 add-process : tie.Need-add-process Inv-loop μ-loop
 add-process c = search needs
@@ -71,7 +71,7 @@ loop-again c =
       omega arith,
       p .put .kept .1 .1 .1 .0 ∙ l .loop .inv .2,
       rw (p .put .ensures, p .before .before .halt-to .ensures, l .loop .inv .1, l .loop .inv .3)
-          (write-up-to (a .r .k) (a .r .groups) (a .count) halt (l .loop .process) (a .output .now)),
+          (write-up-to (a .r .settings .k) (a .r .settings .groups) (a .count) halt (l .loop .process) (a .output .now)),
     )
 
 same-length : tie.Need-same-length Inv-loop μ-loop
@@ -80,9 +80,9 @@ same-length c = c .before .loop .inv .2
 returns-2 : tie.Need-returns-2 Inv-loop μ-loop
 returns-2 c =
     let a = c .before .before .before .before .args in
-    let e : c .before .loop .process ≡ a .r .k + 1 = omega arith in
-    let long = length-map (upTo (a .r .k + 1)) (haltTo (a .group) (a .r .number) (a .t)) in
-    (omega (arith, long, length-upTo (a .r .k + 1)), (omega arith, rw e at (c .before .loop .inv .3)))
+    let e : c .before .loop .process ≡ a .r .settings .k + 1 = omega arith in
+    let long = length-map (upTo (a .r .settings .k + 1)) (haltTo (a .group) (a .r .number) (a .t)) in
+    (omega (arith, long, length-upTo (a .r .settings .k + 1)), (omega arith, rw e at (c .before .loop .inv .3)))
 
 pub send-halts-spec : {M : Type 1} → statement M
 send-halts-spec =

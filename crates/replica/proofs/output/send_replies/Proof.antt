@@ -10,7 +10,8 @@ use lib.ListN.{length, getD, drop}
 use borrow.Author.Needs.{needs}
 use Rattle.rules.specs.Batch.{replyTo}
 use Rattle.batch.specs.State.{waiting, stateOf, free}
-use Rattle.batch.specs.Head.{inBatch, batchAt}
+use Rattle.batch.specs.Head.{requestsAt}
+use Rattle.rules.specs.Replica.{inBatch}
 use Rattle.replica.specs.Output.{writeAt}
 use Rattle.batch.proofs.Left.{left-next, left-none}
 use Rattle.replica.proofs.Written.{write-none, write-next}
@@ -22,9 +23,9 @@ Inv-loop group t output₀ count r q n next₀ i₀ output next i =
     (i ≤ n)
     × (next ≤ count + i)
     × (length output ≡ length output₀)
-    × (next + length (batchAt group t (drop i (waiting q))) ≡ count + length (batchAt group t (waiting q)))
-    × (writeAt (r .k) (r .groups) next (map (replyTo (stateOf r .store) (r .number)) (batchAt group t (drop i (waiting q)))) output
-    ≡ writeAt (r .k) (r .groups) count (map (replyTo (stateOf r .store) (r .number)) (batchAt group t (waiting q))) output₀)
+    × (next + length (requestsAt group t (drop i (waiting q))) ≡ count + length (requestsAt group t (waiting q)))
+    × (writeAt (r .settings .k) (r .settings .groups) next (map (replyTo (stateOf r .store) (r .number)) (requestsAt group t (drop i (waiting q)))) output
+    ≡ writeAt (r .settings .k) (r .settings .groups) count (map (replyTo (stateOf r .store) (r .number)) (requestsAt group t (waiting q))) output₀)
 
 abbrev μ-loop : tie.MeasureT-loop
 μ-loop group t output₀ count r q n next₀ i₀ output next i = n - i
@@ -75,13 +76,13 @@ loop-again c =
     (λ w.
     let here : inBatch (a .group) (a .t) p ≡ true = sym mine ∙ w .0 .taken in
     let message = w .5 .ensures (stateOf r .store) refl in
-    let written : c .if1 .output ≡ writeAt (r .k) (r .groups) (l .loop .next) (w .5 .result ∷ []) (l .loop .output) = rw (w .10) (w .7 .ensures) in (
+    let written : c .if1 .output ≡ writeAt (r .settings .k) (r .settings .groups) (l .loop .next) (w .5 .result ∷ []) (l .loop .output) = rw (w .10) (w .7 .ensures) in (
       omega arith,
       omega (arith, w .11),
       ap length (w .10) ∙ (w .7 .kept .1 .1 .1 .0 ∙ inv .2),
       omega (arith, w .11, rw (next, here) at (inv .3)),
       rw (written, w .11, message)
-          (sym (write-next (r .k) (r .groups) (l .loop .next) (reply (p .request)) _ (l .loop .output)) ∙ (rw (next, here) at (inv .4))),
+          (sym (write-next (r .settings .k) (r .settings .groups) (l .loop .next) (reply (p .request)) _ (l .loop .output)) ∙ (rw (next, here) at (inv .4))),
     ))
     (λ w.
     let there : inBatch (a .group) (a .t) p ≡ false = sym mine ∙ w .0 .left in (
@@ -102,7 +103,7 @@ returns c =
     let r = l .before .before .before .before .args .t1 in
     let none = left-none (r .queue .count) (r .queue .pending) (l .loop .i) (omega (arith, l .before .pending-count .ensures .0)) in (
       sym (add-zero (l .loop .next)) ∙ (rw none at (l .loop .inv .3)),
-      (omega arith, sym (write-none (r .k) (r .groups) (l .loop .next) (l .loop .output)) ∙ (rw none at (l .loop .inv .4))),
+      (omega arith, sym (write-none (r .settings .k) (r .settings .groups) (l .loop .next) (l .loop .output)) ∙ (rw none at (l .loop .inv .4))),
     )
 
 pub send-replies-spec : {M : Type 1} → statement M

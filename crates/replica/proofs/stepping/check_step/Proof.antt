@@ -1,6 +1,5 @@
--- One question behind those of the time.
 use borrow.Author.Needs.{needs}
-use Rattle.question.specs.Question.{ask}
+use Rattle.question.proofs.Questions.{ask-chain}
 use Rattle.replica.proofs.stepping.check_step.Statement.{statement}
 use Rattle.replica.proofs.stepping.check_step.Tie as tie
 
@@ -11,8 +10,7 @@ check-time-requires : tie.Need-check-time-requires
 check-time-requires c κs = search needs
 
 returns : tie.Need-returns
-unfolding ask
-returns c = rw (c .check-time .ensures, c .before .ask .ensures)
+returns c = rw (c .ask .ensures, c .before .check-time .ensures) (simp ask-chain)
 
 pub check-step-spec : {M : Type 1} → statement M
-check-step-spec = tie.close (tie.spec ask-requires check-time-requires returns)
+check-step-spec = tie.close (tie.spec check-time-requires ask-requires returns)

@@ -127,7 +127,7 @@ same-length c = c .before .loop .inv .2
 
 returns : tie.Need-returns Inv-loop μ-loop
 returns c =
-    let e : c .before .loop .group ≡ c .before .before .before .args .r .groups = omega arith in
+    let e : c .before .loop .group ≡ c .before .before .before .args .r .settings .groups = omega arith in
     rw e at (c .before .loop .inv .3 (omega arith))
 
 pub visits-spec : {M : Type 1} → statement M
