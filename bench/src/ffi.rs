@@ -185,12 +185,12 @@ pub fn count_halts(k: u8, n: u8, group: u8, process: u8, list: List) -> ValueRes
 /// The same symbols over the model, in the place of libexport.a.
 ///
 /// Each of them must be lent `length` bytes at the pointer.
-#[cfg(feature = "fake")]
+#[cfg(feature = "mutants")]
 mod symbols {
     use std::slice::{from_raw_parts, from_raw_parts_mut};
 
     use super::*;
-    use crate::fake;
+    use crate::mutants;
 
     #[no_mangle]
     unsafe extern "C" fn failstop_read_request(
@@ -199,7 +199,7 @@ mod symbols {
         bytes: *const u8,
         length: usize,
     ) -> RequestResult {
-        fake::read_request(k, n, from_raw_parts(bytes, length))
+        mutants::read_request(k, n, from_raw_parts(bytes, length))
     }
 
     #[no_mangle]
@@ -209,7 +209,7 @@ mod symbols {
         bytes: *const u8,
         length: usize,
     ) -> MessageResult {
-        fake::read_message(k, n, from_raw_parts(bytes, length))
+        mutants::read_message(k, n, from_raw_parts(bytes, length))
     }
 
     #[no_mangle]
@@ -220,7 +220,7 @@ mod symbols {
         bytes: *mut u8,
         length: usize,
     ) -> u8 {
-        fake::write_request(k, n, r, from_raw_parts_mut(bytes, length))
+        mutants::write_request(k, n, r, from_raw_parts_mut(bytes, length))
     }
 
     #[no_mangle]
@@ -231,12 +231,12 @@ mod symbols {
         bytes: *mut u8,
         length: usize,
     ) -> u8 {
-        fake::write_message(k, n, m, from_raw_parts_mut(bytes, length))
+        mutants::write_message(k, n, m, from_raw_parts_mut(bytes, length))
     }
 
     #[no_mangle]
     extern "C" fn failstop_make(k: u8, n: u8, owner: u8, delta: u64, number: u8) -> ReplicaResult {
-        fake::make(k, n, owner, delta, number)
+        mutants::make(k, n, owner, delta, number)
     }
 
     #[no_mangle]
@@ -246,7 +246,7 @@ mod symbols {
         length: usize,
         at: LocalTime,
     ) -> ReplicaResult {
-        fake::deliver(r, from_raw_parts(bytes, length), at)
+        mutants::deliver(r, from_raw_parts(bytes, length), at)
     }
 
     #[no_mangle]
@@ -256,12 +256,12 @@ mod symbols {
         output: *mut u8,
         length: usize,
     ) -> StepResult {
-        fake::step(r, at, from_raw_parts_mut(output, length))
+        mutants::step(r, at, from_raw_parts_mut(output, length))
     }
 
     #[no_mangle]
     extern "C" fn failstop_vote(k: u8, n: u8, q: Query, list: List) -> ValueResult {
-        fake::vote(k, n, q, &list)
+        mutants::vote(k, n, q, &list)
     }
 
     #[no_mangle]
@@ -272,6 +272,6 @@ mod symbols {
         process: u8,
         list: List,
     ) -> ValueResult {
-        fake::count_halts(k, n, group, process, &list)
+        mutants::count_halts(k, n, group, process, &list)
     }
 }

@@ -22,9 +22,9 @@ pub fn program() -> PathBuf {
     }
 }
 
-/// Whether journals are compared: not with the fake, unless it is given one.
+/// Whether journals are compared: not with the mutants, unless a program is named.
 pub fn wanted() -> bool {
-    !cfg!(feature = "fake") || std::env::var_os("JOURNAL").is_some()
+    !cfg!(feature = "mutants") || std::env::var_os("JOURNAL").is_some()
 }
 
 /// One journal, fed in odd pieces.

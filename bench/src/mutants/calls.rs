@@ -1,4 +1,4 @@
-//! Small bugs around the model, one at a time, to see that they are found.
+//! The calls of the model, as each mutant has them: with one small bug.
 
 use std::collections::BTreeSet;
 use std::sync::OnceLock;
@@ -13,9 +13,9 @@ use crate::model::{LocalTime, Refusal, Timestamp};
 use crate::model::{DELTA_LIMIT, FAILED, LIST_LIMIT, OUTPUT_SIZE, PENDING_LIMIT, RECORD_SIZE};
 use crate::model::{TIME_LIMIT, VARIABLES};
 
-/// The bugs. FAKE_BUG is the place in the list, from 1.
+/// The mutants. The variable MUTANT has the place in the list, from 1.
 #[derive(Clone, Copy, Debug, PartialEq, Eq)]
-pub enum Bug {
+pub enum Mutant {
     StableAtEquality,
     LatestArrival,
     UnstableSkipped,
@@ -61,77 +61,77 @@ pub enum Bug {
     HaltValueIgnored,
 }
 
-/// For each bug what it is, and whether a unit as a whole shows it.
-pub const BUGS: [(Bug, &str, bool); 43] = [
-    (Bug::StableAtEquality, "a batch is stable exactly delta after its first arrival", true),
-    (Bug::LatestArrival, "stability counts from the latest arrival", false),
-    (Bug::UnstableSkipped, "an unstable batch is skipped to serve a later timestamp", true),
-    (Bug::OneBatchOnly, "a step handles one batch of each group", true),
-    (Bug::SendersIgnored, "k+1 writes are counted without a look at their senders", true),
-    (Bug::RepeatPasses, "a repeated write passes", true),
-    (Bug::MixedReadIgnored, "a read among writes is dropped", true),
-    (Bug::RepliesReversed, "replies stand in reversed order of arrival", true),
-    (Bug::LastHaltMissing, "the last process gets no halt", true),
-    (Bug::CountOffByOne, "the number of messages is one too large", true),
-    (Bug::OutputCleared, "the rest of the output is cleared", false),
-    (Bug::RefusedStepWrites, "a refused step changes the output", false),
-    (Bug::RoomBeforeTime, "a step asks for room before it asks for the time", false),
-    (Bug::OwnerIsLastGroup, "the last group is taken for the owner", true),
-    (Bug::FailedGoesOn, "a failed store goes on", true),
-    (Bug::FailedIsSilent, "a failed store answers no reads", true),
-    (Bug::WritesNotCounted, "performed writes are not counted", true),
-    (Bug::PendingSwapped, "a step swaps the first two pending requests", true),
-    (Bug::SignedTimestamps, "timestamps are compared as signed numbers", true),
-    (Bug::FreePlaceTaken, "the first free place is taken for a pending request", false),
-    (Bug::StepKeepsClock, "an accepted step does not move the clock", false),
-    (Bug::LastTimeRefused, "local time 2^62 is refused", true),
-    (Bug::DeltaLimitRefused, "a delta of 1,000,000 is refused", true),
-    (Bug::OwnerNotAsked, "an owner that does not exist is accepted", false),
-    (Bug::SixtyFifthAccepted, "the 65th pending request is accepted", true),
-    (Bug::SixtyFourthRefused, "the 64th pending request is refused", false),
-    (Bug::RefusalMovesClock, "a refused delivery moves the clock", false),
-    (Bug::TimeBeforeRecord, "a delivery asks for the time before the record", false),
-    (Bug::ReplicaByteIgnored, "byte 3 of a request is not looked at", false),
-    (Bug::LongRecordRead, "a record of 25 bytes is read", false),
-    (Bug::ProcessBeforeGroup, "the process is asked for before the group", false),
-    (Bug::PaddingIgnored, "the last four bytes of a message are not looked at", false),
-    (Bug::WriteBeyond24, "writing a request clears bytes behind the 24", false),
-    (Bug::RefusedWriteSpoils, "a refused write changes the destination", false),
-    (Bug::ReplicaCountedTwice, "the vote counts one replica twice", true),
-    (Bug::LastReplyWins, "the vote takes the last reply of each replica", false),
-    (Bug::LastMessageIgnored, "the vote does not look at the last message", true),
-    (Bug::Sixty5MessagesTaken, "a vote over 65 messages is taken", false),
-    (Bug::VariableIgnored, "the vote does not look at the variable", true),
-    (Bug::ReplicaWraps, "the vote counts replicas that do not exist", true),
-    (Bug::HaltsNotReplicas, "the halt count counts halts, not replicas", true),
-    (Bug::HaltsOfAnyProcess, "the halt count takes halts to any process", true),
-    (Bug::HaltValueIgnored, "the halt count takes halts with a value", false),
+/// For each mutant its bug, and whether the simulation shows it.
+pub const MUTANTS: [(Mutant, &str, bool); 43] = [
+    (Mutant::StableAtEquality, "a batch is stable exactly delta after its first arrival", true),
+    (Mutant::LatestArrival, "stability counts from the latest arrival", false),
+    (Mutant::UnstableSkipped, "an unstable batch is skipped to serve a later timestamp", true),
+    (Mutant::OneBatchOnly, "a step handles one batch of each group", true),
+    (Mutant::SendersIgnored, "k+1 writes are counted without a look at their senders", true),
+    (Mutant::RepeatPasses, "a repeated write passes", true),
+    (Mutant::MixedReadIgnored, "a read among writes is dropped", true),
+    (Mutant::RepliesReversed, "replies stand in reversed order of arrival", true),
+    (Mutant::LastHaltMissing, "the last process gets no halt", true),
+    (Mutant::CountOffByOne, "the number of messages is one too large", true),
+    (Mutant::OutputCleared, "the rest of the output is cleared", false),
+    (Mutant::RefusedStepWrites, "a refused step changes the output", false),
+    (Mutant::RoomBeforeTime, "a step asks for room before it asks for the time", false),
+    (Mutant::OwnerIsLastGroup, "the last group is taken for the owner", true),
+    (Mutant::FailedGoesOn, "a failed store goes on", true),
+    (Mutant::FailedIsSilent, "a failed store answers no reads", true),
+    (Mutant::WritesNotCounted, "performed writes are not counted", true),
+    (Mutant::PendingSwapped, "a step swaps the first two pending requests", true),
+    (Mutant::SignedTimestamps, "timestamps are compared as signed numbers", true),
+    (Mutant::FreePlaceTaken, "the first free place is taken for a pending request", false),
+    (Mutant::StepKeepsClock, "an accepted step does not move the clock", false),
+    (Mutant::LastTimeRefused, "local time 2^62 is refused", true),
+    (Mutant::DeltaLimitRefused, "a delta of 1,000,000 is refused", true),
+    (Mutant::OwnerNotAsked, "an owner that does not exist is accepted", false),
+    (Mutant::SixtyFifthAccepted, "the 65th pending request is accepted", true),
+    (Mutant::SixtyFourthRefused, "the 64th pending request is refused", false),
+    (Mutant::RefusalMovesClock, "a refused delivery moves the clock", false),
+    (Mutant::TimeBeforeRecord, "a delivery asks for the time before the record", false),
+    (Mutant::ReplicaByteIgnored, "byte 3 of a request is not looked at", false),
+    (Mutant::LongRecordRead, "a record of 25 bytes is read", false),
+    (Mutant::ProcessBeforeGroup, "the process is asked for before the group", false),
+    (Mutant::PaddingIgnored, "the last four bytes of a message are not looked at", false),
+    (Mutant::WriteBeyond24, "writing a request clears bytes behind the 24", false),
+    (Mutant::RefusedWriteSpoils, "a refused write changes the destination", false),
+    (Mutant::ReplicaCountedTwice, "the vote counts one replica twice", true),
+    (Mutant::LastReplyWins, "the vote takes the last reply of each replica", false),
+    (Mutant::LastMessageIgnored, "the vote does not look at the last message", true),
+    (Mutant::Sixty5MessagesTaken, "a vote over 65 messages is taken", false),
+    (Mutant::VariableIgnored, "the vote does not look at the variable", true),
+    (Mutant::ReplicaWraps, "the vote counts replicas that do not exist", true),
+    (Mutant::HaltsNotReplicas, "the halt count counts halts, not replicas", true),
+    (Mutant::HaltsOfAnyProcess, "the halt count takes halts to any process", true),
+    (Mutant::HaltValueIgnored, "the halt count takes halts with a value", false),
 ];
 
-/// The bug chosen by FAKE_BUG.
-fn chosen() -> Option<Bug> {
-    static CHOSEN: OnceLock<Option<Bug>> = OnceLock::new();
+/// The mutant chosen by MUTANT, if there is one.
+fn chosen() -> Option<Mutant> {
+    static CHOSEN: OnceLock<Option<Mutant>> = OnceLock::new();
     *CHOSEN.get_or_init(|| {
-        let number: usize = std::env::var("FAKE_BUG").ok()?.parse().ok()?;
-        Some(BUGS.get(number.checked_sub(1)?)?.0)
+        let number: usize = std::env::var("MUTANT").ok()?.parse().ok()?;
+        Some(MUTANTS.get(number.checked_sub(1)?)?.0)
     })
 }
 
-fn has(bug: Bug) -> bool {
-    chosen() == Some(bug)
+fn is(mutant: Mutant) -> bool {
+    chosen() == Some(mutant)
 }
 
 pub fn read_request(k: u8, n: u8, bytes: &[u8]) -> Result<Request, Refusal> {
     let mut record = bytes.to_vec();
-    if has(Bug::LongRecordRead) && record.len() == RECORD_SIZE + 1 {
+    if is(Mutant::LongRecordRead) && record.len() == RECORD_SIZE + 1 {
         record.pop();
     }
-    if has(Bug::ReplicaByteIgnored) && record.len() == RECORD_SIZE {
+    if is(Mutant::ReplicaByteIgnored) && record.len() == RECORD_SIZE {
         record[3] = 0;
     }
     match record::read_request(k, n, &record) {
         Err(Refusal::Group)
-            if has(Bug::ProcessBeforeGroup) && !(1..=k + 1).contains(&record[2]) =>
+            if is(Mutant::ProcessBeforeGroup) && !(1..=k + 1).contains(&record[2]) =>
         {
             Err(Refusal::Process)
         }
@@ -141,7 +141,7 @@ pub fn read_request(k: u8, n: u8, bytes: &[u8]) -> Result<Request, Refusal> {
 
 pub fn read_message(k: u8, n: u8, bytes: &[u8]) -> Result<Message, Refusal> {
     let mut record = bytes.to_vec();
-    if has(Bug::PaddingIgnored) && record.len() == RECORD_SIZE {
+    if is(Mutant::PaddingIgnored) && record.len() == RECORD_SIZE {
         record[20..].fill(0);
     }
     record::read_message(k, n, &record)
@@ -154,7 +154,7 @@ pub fn write_request(
     destination: &mut [u8],
 ) -> Result<(), Refusal> {
     let result = record::write_request(k, n, fields, destination);
-    if has(Bug::WriteBeyond24) && result.is_ok() {
+    if is(Mutant::WriteBeyond24) && result.is_ok() {
         destination[RECORD_SIZE..].fill(0);
     }
     result
@@ -167,7 +167,7 @@ pub fn write_message(
     destination: &mut [u8],
 ) -> Result<(), Refusal> {
     let result = record::write_message(k, n, fields, destination);
-    if has(Bug::RefusedWriteSpoils) && result.is_err() {
+    if is(Mutant::RefusedWriteSpoils) && result.is_err() {
         destination.iter_mut().take(1).for_each(|byte| *byte ^= 1);
     }
     result
@@ -175,14 +175,14 @@ pub fn write_message(
 
 pub fn make(k: u8, n: u8, owner: u8, delta: u64, number: u8) -> Result<Replica, Refusal> {
     match Replica::make(k, n, owner, delta, number) {
-        Err(Refusal::Owner) if has(Bug::OwnerNotAsked) => Replica::make(k, n, 1, delta, number),
-        Ok(_) if has(Bug::DeltaLimitRefused) && delta == DELTA_LIMIT => Err(Refusal::Delta),
+        Err(Refusal::Owner) if is(Mutant::OwnerNotAsked) => Replica::make(k, n, 1, delta, number),
+        Ok(_) if is(Mutant::DeltaLimitRefused) && delta == DELTA_LIMIT => Err(Refusal::Delta),
         result => result,
     }
 }
 
 pub fn deliver(replica: &mut Replica, bytes: &[u8], at: LocalTime) -> Result<(), Refusal> {
-    if has(Bug::TimeBeforeRecord) && at > TIME_LIMIT {
+    if is(Mutant::TimeBeforeRecord) && at > TIME_LIMIT {
         return Err(Refusal::TimeTooLarge);
     }
     let before = replica.clone();
@@ -190,16 +190,16 @@ pub fn deliver(replica: &mut Replica, bytes: &[u8], at: LocalTime) -> Result<(),
     let result = read_request(settings.k(), settings.groups(), bytes)
         .and_then(|request| replica.deliver(&request.encode(), at));
     match (chosen(), result) {
-        (Some(Bug::SixtyFifthAccepted), Err(Refusal::PendingFull)) => Ok(()),
-        (Some(Bug::SixtyFourthRefused), Ok(())) if replica.pending.len() == PENDING_LIMIT => {
+        (Some(Mutant::SixtyFifthAccepted), Err(Refusal::PendingFull)) => Ok(()),
+        (Some(Mutant::SixtyFourthRefused), Ok(())) if replica.pending.len() == PENDING_LIMIT => {
             *replica = before;
             Err(Refusal::PendingFull)
         }
-        (Some(Bug::LastTimeRefused), Ok(())) if at == TIME_LIMIT => {
+        (Some(Mutant::LastTimeRefused), Ok(())) if at == TIME_LIMIT => {
             *replica = before;
             Err(Refusal::TimeTooLarge)
         }
-        (Some(Bug::RefusalMovesClock), Err(_)) if at <= TIME_LIMIT => {
+        (Some(Mutant::RefusalMovesClock), Err(_)) if at <= TIME_LIMIT => {
             replica.last = replica.last.max(at);
             result
         }
@@ -209,7 +209,7 @@ pub fn deliver(replica: &mut Replica, bytes: &[u8], at: LocalTime) -> Result<(),
 
 /// Takes one more request out of the array, if it looks like one.
 pub fn before_step(model: &mut Replica, replica: &ffi::Replica) {
-    if has(Bug::FreePlaceTaken) && replica.queue.count < PENDING_LIMIT {
+    if is(Mutant::FreePlaceTaken) && replica.queue.count < PENDING_LIMIT {
         let mut longer = *replica;
         longer.queue.count += 1;
         if let Some(longer) = from_replica(&longer) {
@@ -220,29 +220,29 @@ pub fn before_step(model: &mut Replica, replica: &ffi::Replica) {
 
 pub fn step(replica: &mut Replica, at: LocalTime, output: &mut [u8]) -> Result<usize, Refusal> {
     match chosen() {
-        Some(Bug::StableAtEquality) => stable_at_equality(replica, at, output),
-        Some(Bug::LatestArrival) => disguised(replica, at, output, |p| take_latest_arrival(p)),
-        Some(Bug::UnstableSkipped) => {
+        Some(Mutant::StableAtEquality) => stable_at_equality(replica, at, output),
+        Some(Mutant::LatestArrival) => disguised(replica, at, output, |p| take_latest_arrival(p)),
+        Some(Mutant::UnstableSkipped) => {
             let delta = replica.delta;
             disguised(replica, at, output, |pending| hide_unstable(pending, delta, at))
         }
-        Some(Bug::OneBatchOnly) => disguised(replica, at, output, hide_later),
-        Some(Bug::SendersIgnored) => disguised(replica, at, output, |p| renumber_senders(p)),
-        Some(Bug::RepeatPasses) => disguised(replica, at, output, drop_repeats),
-        Some(Bug::MixedReadIgnored) => disguised(replica, at, output, drop_mixed_reads),
-        Some(Bug::RepliesReversed) => disguised(replica, at, output, |p| p.reverse()),
-        Some(Bug::LastHaltMissing) => without_last_halt(replica, at, output),
-        Some(Bug::RoomBeforeTime) if output.len() < OUTPUT_SIZE => Err(Refusal::TooLittleRoom),
-        Some(Bug::OwnerIsLastGroup) => with_other_owner(replica, at, output),
-        Some(Bug::FailedGoesOn) => forgetting_failure(replica, at, output),
-        Some(Bug::FailedIsSilent) => silent_when_failed(replica, at, output),
-        Some(Bug::SignedTimestamps) => with_signed_timestamps(replica, at, output),
-        Some(Bug::LastTimeRefused) if at == TIME_LIMIT => Err(Refusal::TimeTooLarge),
+        Some(Mutant::OneBatchOnly) => disguised(replica, at, output, hide_later),
+        Some(Mutant::SendersIgnored) => disguised(replica, at, output, |p| renumber_senders(p)),
+        Some(Mutant::RepeatPasses) => disguised(replica, at, output, drop_repeats),
+        Some(Mutant::MixedReadIgnored) => disguised(replica, at, output, drop_mixed_reads),
+        Some(Mutant::RepliesReversed) => disguised(replica, at, output, |p| p.reverse()),
+        Some(Mutant::LastHaltMissing) => without_last_halt(replica, at, output),
+        Some(Mutant::RoomBeforeTime) if output.len() < OUTPUT_SIZE => Err(Refusal::TooLittleRoom),
+        Some(Mutant::OwnerIsLastGroup) => with_other_owner(replica, at, output),
+        Some(Mutant::FailedGoesOn) => forgetting_failure(replica, at, output),
+        Some(Mutant::FailedIsSilent) => silent_when_failed(replica, at, output),
+        Some(Mutant::SignedTimestamps) => with_signed_timestamps(replica, at, output),
+        Some(Mutant::LastTimeRefused) if at == TIME_LIMIT => Err(Refusal::TimeTooLarge),
         _ => spoiled_afterwards(replica, at, output),
     }
 }
 
-/// The bugs that need only a right step before them.
+/// The mutants whose bug comes after a right step.
 fn spoiled_afterwards(
     replica: &mut Replica,
     at: LocalTime,
@@ -251,12 +251,12 @@ fn spoiled_afterwards(
     let (last, writes) = (replica.last, replica.writes);
     let result = replica.step(at, output);
     match (chosen(), result) {
-        (Some(Bug::CountOffByOne), Ok(count)) => return Ok(count + 1),
-        (Some(Bug::OutputCleared), Ok(count)) => output[count * RECORD_SIZE..].fill(0),
-        (Some(Bug::RefusedStepWrites), Err(_)) => output.fill(0),
-        (Some(Bug::WritesNotCounted), Ok(_)) => replica.writes = writes,
-        (Some(Bug::StepKeepsClock), Ok(_)) => replica.last = last,
-        (Some(Bug::PendingSwapped), Ok(_)) if replica.pending.len() > 1 => {
+        (Some(Mutant::CountOffByOne), Ok(count)) => return Ok(count + 1),
+        (Some(Mutant::OutputCleared), Ok(count)) => output[count * RECORD_SIZE..].fill(0),
+        (Some(Mutant::RefusedStepWrites), Err(_)) => output.fill(0),
+        (Some(Mutant::WritesNotCounted), Ok(_)) => replica.writes = writes,
+        (Some(Mutant::StepKeepsClock), Ok(_)) => replica.last = last,
+        (Some(Mutant::PendingSwapped), Ok(_)) if replica.pending.len() > 1 => {
             replica.pending.swap(0, 1);
         }
         _ => {}
@@ -427,12 +427,12 @@ fn with_signed_timestamps(
 
 pub fn vote(k: u8, n: u8, query: &Query, mut list: Vec<MessageFields>) -> Result<u32, Refusal> {
     match chosen() {
-        Some(Bug::ReplicaCountedTwice) => spread_replicas(k, query, &mut list),
-        Some(Bug::LastReplyWins) => list.reverse(),
-        Some(Bug::LastMessageIgnored) if list.len() <= LIST_LIMIT => drop(list.pop()),
-        Some(Bug::Sixty5MessagesTaken) => list.truncate(LIST_LIMIT),
-        Some(Bug::VariableIgnored) => ignore_variable(query, &mut list),
-        Some(Bug::ReplicaWraps) => wrap_replicas(k, &mut list),
+        Some(Mutant::ReplicaCountedTwice) => spread_replicas(k, query, &mut list),
+        Some(Mutant::LastReplyWins) => list.reverse(),
+        Some(Mutant::LastMessageIgnored) if list.len() <= LIST_LIMIT => drop(list.pop()),
+        Some(Mutant::Sixty5MessagesTaken) => list.truncate(LIST_LIMIT),
+        Some(Mutant::VariableIgnored) => ignore_variable(query, &mut list),
+        Some(Mutant::ReplicaWraps) => wrap_replicas(k, &mut list),
         _ => {}
     }
     vote::vote(k, n, query, &list)
@@ -466,14 +466,14 @@ pub fn count_halts(
     process: u8,
     mut list: Vec<MessageFields>,
 ) -> Result<usize, Refusal> {
-    if has(Bug::HaltsOfAnyProcess) {
+    if is(Mutant::HaltsOfAnyProcess) {
         list.iter_mut().for_each(|message| message.process = process);
     }
-    if has(Bug::HaltValueIgnored) {
+    if is(Mutant::HaltValueIgnored) {
         list.iter_mut().filter(|m| m.kind == HALT).for_each(|message| message.value = 0);
     }
     let count = vote::count_halts(k, n, group, process, &list)?;
-    if has(Bug::HaltsNotReplicas) {
+    if is(Mutant::HaltsNotReplicas) {
         let addressed =
             |m: &&MessageFields| m.kind == HALT && m.group == group && m.process == process;
         return Ok(list.iter().filter(addressed).count());
