@@ -1,6 +1,6 @@
 //! Shows that the harness can fail: each mutant must be found.
 //!
-//! Runs `differential` and `unit`, built with the feature `mutants` and standing
+//! Runs `differential` and `simulation`, built with the feature `mutants` and standing
 //! beside this program, once without a mutant and once with each of them.
 
 use std::io;
@@ -16,7 +16,7 @@ const UNITS: &str = "4000";
 /// The programs that stand beside this one.
 struct Programs {
     differential: PathBuf,
-    unit: PathBuf,
+    simulation: PathBuf,
     journal: PathBuf,
 }
 
@@ -31,7 +31,7 @@ fn main() -> io::Result<ExitCode> {
     let beside = |name| here.with_file_name(name);
     let programs = Programs {
         differential: beside("differential"),
-        unit: beside("unit"),
+        simulation: beside("simulation"),
         journal: beside("model_journal"),
     };
     let unnoticed =
@@ -45,7 +45,7 @@ fn without_mutant(programs: &Programs) -> io::Result<usize> {
     let journal = programs.journal.as_os_str();
     let verdicts = [
         run(Command::new(&programs.differential).arg(RUNS).env("JOURNAL", journal))?,
-        run(Command::new(&programs.unit).arg(UNITS))?,
+        run(Command::new(&programs.simulation).arg(UNITS))?,
     ];
     for verdict in &verdicts {
         println!("no mutant: {}", if verdict.passed { "passed" } else { "NOT PASSED" });
@@ -53,16 +53,17 @@ fn without_mutant(programs: &Programs) -> io::Result<usize> {
     Ok(verdicts.iter().filter(|verdict| !verdict.passed).count())
 }
 
-/// The differential must find each mutant, the unit those that show in it.
+/// The differential must find each mutant, the simulation those that show in it.
 fn mutants_of_calls(programs: &Programs) -> io::Result<usize> {
     let mut unnoticed = 0;
-    for (place, (_, what, shows_in_unit)) in MUTANTS.iter().enumerate() {
+    for (place, (_, what, shows_in_simulation)) in MUTANTS.iter().enumerate() {
         let number = (place + 1).to_string();
         println!("mutant {number}: {what}");
         let with_mutant =
             |program: &Path, amount| run(Command::new(program).arg(amount).env("MUTANT", &number));
         unnoticed += report("differential", true, with_mutant(&programs.differential, RUNS)?);
-        unnoticed += report("unit", *shows_in_unit, with_mutant(&programs.unit, UNITS)?);
+        unnoticed +=
+            report("simulation", *shows_in_simulation, with_mutant(&programs.simulation, UNITS)?);
     }
     Ok(unnoticed)
 }

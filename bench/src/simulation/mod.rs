@@ -44,8 +44,8 @@ struct Run {
     messages: Vec<Message>,
 }
 
-/// One generated unit. The plan comes with a difference.
-pub fn unit(random: &mut Random, counts: &mut Counts) -> Result<(), String> {
+/// Simulates one generated unit. The plan comes with a difference.
+pub fn simulate(random: &mut Random, counts: &mut Counts) -> Result<(), String> {
     let plan = some_plan(random);
     counts.plan(&plan);
     carry_out(&plan, random, counts).map_err(|what| format!("{what}\ninput: {plan:?}"))

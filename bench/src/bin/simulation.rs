@@ -1,14 +1,14 @@
 //! Simulates whole units with lying replicas and compares what is voted and
 //! counted with the register machine.
 //!
-//! `unit [units] [seed] [first unit]` ends with 1 at the first difference, and
-//! with 2 where something that must occur did not.
+//! `simulation [units] [seed] [first unit]` ends with 1 at the first difference,
+//! and with 2 where something that must occur did not.
 
 use std::process::ExitCode;
 use std::time::Instant;
 
 use bench::random::Random;
-use bench::simulation::{unit, Counts};
+use bench::simulation::{simulate, Counts};
 
 const UNITS: u64 = 20_000;
 const SEED: u64 = 1984;
@@ -17,12 +17,12 @@ fn main() -> ExitCode {
     let units = argument(1, UNITS);
     let seed = argument(2, SEED);
     let first = argument(3, 1);
-    println!("unit, {}: {units} units from seed {seed}", bench::other_side());
+    println!("simulation, {}: {units} units from seed {seed}", bench::other_side());
     let start = Instant::now();
     let mut counts = Counts::default();
     for number in first..first.saturating_add(units) {
         let mut random = Random::of_run(seed, number);
-        if let Err(difference) = unit(&mut random, &mut counts) {
+        if let Err(difference) = simulate(&mut random, &mut counts) {
             println!("DIFFERENCE in unit {number} from seed {seed}: {difference}");
             return ExitCode::from(1);
         }
@@ -38,7 +38,7 @@ fn main() -> ExitCode {
 /// A numeric argument of the program.
 fn argument(place: usize, otherwise: u64) -> u64 {
     match std::env::args().nth(place) {
-        Some(text) => text.parse().expect("usage: unit [units] [seed] [first unit]"),
+        Some(text) => text.parse().expect("usage: simulation [units] [seed] [first unit]"),
         None => otherwise,
     }
 }
