@@ -1,4 +1,5 @@
-//! The C functions of libexport.a and a safe function for each of them.
+//! The C functions of libexport.a, as crates/export/failstop.h declares them,
+//! and a safe function for each of them.
 
 #![allow(unsafe_code)]
 
@@ -180,98 +181,4 @@ pub fn vote(k: u8, n: u8, query: Query, list: List) -> ValueResult {
 #[inline]
 pub fn count_halts(k: u8, n: u8, group: u8, process: u8, list: List) -> ValueResult {
     unsafe { failstop_count_halts(k, n, group, process, list) }
-}
-
-/// The same symbols over the model, in the place of libexport.a.
-///
-/// Each of them must be lent `length` bytes at the pointer.
-#[cfg(feature = "mutants")]
-mod symbols {
-    use std::slice::{from_raw_parts, from_raw_parts_mut};
-
-    use super::*;
-    use crate::mutants;
-
-    #[no_mangle]
-    unsafe extern "C" fn failstop_read_request(
-        k: u8,
-        n: u8,
-        bytes: *const u8,
-        length: usize,
-    ) -> RequestResult {
-        mutants::read_request(k, n, from_raw_parts(bytes, length))
-    }
-
-    #[no_mangle]
-    unsafe extern "C" fn failstop_read_message(
-        k: u8,
-        n: u8,
-        bytes: *const u8,
-        length: usize,
-    ) -> MessageResult {
-        mutants::read_message(k, n, from_raw_parts(bytes, length))
-    }
-
-    #[no_mangle]
-    unsafe extern "C" fn failstop_write_request(
-        k: u8,
-        n: u8,
-        r: Request,
-        bytes: *mut u8,
-        length: usize,
-    ) -> u8 {
-        mutants::write_request(k, n, r, from_raw_parts_mut(bytes, length))
-    }
-
-    #[no_mangle]
-    unsafe extern "C" fn failstop_write_message(
-        k: u8,
-        n: u8,
-        m: Message,
-        bytes: *mut u8,
-        length: usize,
-    ) -> u8 {
-        mutants::write_message(k, n, m, from_raw_parts_mut(bytes, length))
-    }
-
-    #[no_mangle]
-    extern "C" fn failstop_make(k: u8, n: u8, owner: u8, delta: u64, number: u8) -> ReplicaResult {
-        mutants::make(k, n, owner, delta, number)
-    }
-
-    #[no_mangle]
-    unsafe extern "C" fn failstop_deliver(
-        r: Replica,
-        bytes: *const u8,
-        length: usize,
-        at: LocalTime,
-    ) -> ReplicaResult {
-        mutants::deliver(r, from_raw_parts(bytes, length), at)
-    }
-
-    #[no_mangle]
-    unsafe extern "C" fn failstop_step(
-        r: Replica,
-        at: LocalTime,
-        output: *mut u8,
-        length: usize,
-    ) -> StepResult {
-        mutants::step(r, at, from_raw_parts_mut(output, length))
-    }
-
-    #[no_mangle]
-    extern "C" fn failstop_vote(k: u8, n: u8, q: Query, list: List) -> ValueResult {
-        mutants::vote(k, n, q, &list)
-    }
-
-    #[no_mangle]
-    extern "C" fn failstop_count_halts(
-        k: u8,
-        n: u8,
-        group: u8,
-        process: u8,
-        list: List,
-    ) -> ValueResult {
-        mutants::count_halts(k, n, group, process, &list)
-    }
 }

@@ -7,8 +7,8 @@ use std::io;
 use std::path::{Path, PathBuf};
 use std::process::{Command, ExitCode};
 
-use bench::mutants::calls::MUTANTS;
 use bench::mutants::journal;
+use bench::mutants::list::MUTANTS;
 
 const RUNS: &str = "20000";
 const UNITS: &str = "4000";
