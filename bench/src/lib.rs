@@ -3,7 +3,9 @@
 
 #![deny(unsafe_code)]
 
+pub mod difference;
 pub mod model;
+pub mod program;
 pub mod random;
 pub mod traffic;
 

@@ -7,50 +7,24 @@
 use std::process::ExitCode;
 use std::time::Instant;
 
-use bench::random::Random;
+use bench::program::{end, Arguments};
 use bench::simulation::{simulate, Counts};
 
 const UNITS: u64 = 20_000;
-const SEED: u64 = 1984;
 
 fn main() -> ExitCode {
-    let units = argument(1, UNITS);
-    let seed = argument(2, SEED);
-    let first = argument(3, 1);
+    let arguments = Arguments::read(UNITS, "usage: simulation [units] [seed] [first unit]");
+    let Arguments { amount: units, seed, .. } = arguments;
     println!("simulation, {}: {units} units from seed {seed}", bench::other_side());
     let start = Instant::now();
     let mut counts = Counts::default();
-    for number in first..first.saturating_add(units) {
-        let mut random = Random::of_run(seed, number);
+    for (number, mut random) in arguments.inputs() {
         if let Err(difference) = simulate(&mut random, &mut counts) {
-            println!("DIFFERENCE in unit {number} from seed {seed}: {difference}");
-            return ExitCode::from(1);
+            return arguments.differ("unit", number, &difference);
         }
     }
     print!("{counts}");
-    println!(
-        "{units} units as the register machine says in {:.1} s",
-        start.elapsed().as_secs_f64()
-    );
-    report_missing(&counts)
-}
-
-/// A numeric argument of the program.
-fn argument(place: usize, otherwise: u64) -> u64 {
-    match std::env::args().nth(place) {
-        Some(text) => text.parse().expect("usage: simulation [units] [seed] [first unit]"),
-        None => otherwise,
-    }
-}
-
-fn report_missing(counts: &Counts) -> ExitCode {
-    let missing = counts.missing();
-    for line in &missing {
-        println!("MISSING: {line}");
-    }
-    if missing.is_empty() {
-        ExitCode::SUCCESS
-    } else {
-        ExitCode::from(2)
-    }
+    let seconds = start.elapsed().as_secs_f64();
+    println!("{units} units as the register machine says in {seconds:.1} s");
+    end(&counts.missing())
 }

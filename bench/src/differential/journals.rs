@@ -7,7 +7,8 @@ use std::thread;
 
 use super::records::damage;
 use super::tally::{Call, Event, Tally};
-use super::{same, Difference, Outcome};
+use super::{same, Outcome};
+use crate::difference::Difference;
 use crate::model::journal::{delivery_entry, play_bytes, setup_entry, step_entry, ENTRY_SIZE};
 use crate::model::{DELTA_LIMIT, PENDING_LIMIT, RECORD_SIZE, TIME_LIMIT};
 use crate::random::Random;

@@ -13,6 +13,7 @@ mod plan;
 pub use counts::Counts;
 
 use crate::convert::to_list;
+use crate::difference::{compare, compare_lists, Difference};
 use crate::ffi;
 use crate::model::machine::Machine;
 use crate::model::record::{Content, Message, MessageFields, HALT, REPLY};
@@ -25,10 +26,11 @@ use lists::Lists;
 use plan::{some_plan, Plan};
 
 /// Simulates one generated unit. The plan comes with a difference.
-pub fn simulate(random: &mut Random, counts: &mut Counts) -> Result<(), String> {
+pub fn simulate(random: &mut Random, counts: &mut Counts) -> Result<(), Difference> {
     let plan = some_plan(random);
     counts.plan(&plan);
-    carry_out(&plan, random, counts).map_err(|what| format!("{what}\ninput: {plan:?}"))
+    let done = carry_out(&plan, random, counts);
+    done.map_err(|what| Difference { what, input: format!("{plan:?}") })
 }
 
 fn carry_out(plan: &Plan, random: &mut Random, counts: &mut Counts) -> Result<(), String> {
@@ -70,22 +72,10 @@ fn compare_with_machine(plan: &Plan, run: &Run) -> Result<(), String> {
     let machine = Machine::run(k, owner, &run.accepted);
     let sent: Vec<Message> = run.messages.iter().copied().filter(|m| m.group == owner).collect();
     let number = run.number;
-    for (variable, expected) in machine.variables.iter().enumerate() {
-        let found = run.replica.variables[variable];
-        if *expected != found {
-            same(&format!("variable {variable} of replica {number}"), *expected, found)?;
-        }
-    }
-    same(&format!("writes of replica {number}"), machine.writes, run.replica.writes)?;
-    same(&format!("messages of replica {number}"), machine.messages(number), sent)
-}
-
-fn same<T: PartialEq + std::fmt::Debug>(what: &str, expected: T, found: T) -> Result<(), String> {
-    if expected == found {
-        Ok(())
-    } else {
-        Err(format!("{what}: the machine says {expected:?}, found {found:?}"))
-    }
+    let variables = &run.replica.variables;
+    compare_lists(&format!("replica {number}, variable"), &machine.variables, variables)?;
+    compare(&format!("writes of replica {number}"), machine.writes, run.replica.writes)?;
+    compare(&format!("messages of replica {number}"), machine.messages(number), sent)
 }
 
 /// The vote on each of the owner's unmixed reads.
@@ -103,7 +93,7 @@ fn votes(lists: &Lists, random: &mut Random, counts: &mut Counts) -> Result<(), 
         let found = ffi::vote(k, groups, query.into(), to_list(&list, noise(random)));
         counts.votes += 1;
         let what = format!("vote {query:?} over {list:?}");
-        same(&what, (0, u64::from(value)), (found.refusal, found.value))?;
+        compare(&what, (0, u64::from(value)), (found.refusal, found.value))?;
     }
     Ok(())
 }
@@ -117,9 +107,9 @@ fn halts(lists: &Lists, random: &mut Random, counts: &mut Counts) -> Result<(), 
         counts.halt_counts += 1;
         let what = format!("halt count for process {process} over {list:?}");
         let expected = count_halts(k, groups, owner, process, &list).unwrap_or(0) as u64;
-        same(&what, (0, expected), (found.refusal, found.value))?;
+        compare(&what, (0, expected), (found.refusal, found.value))?;
         let must_halt = found.value > u64::from(k);
-        same(&format!("must halt, {what}"), lists.machine.failed(), must_halt)?;
+        compare(&format!("must halt, {what}"), lists.machine.failed(), must_halt)?;
     }
     Ok(())
 }
