@@ -112,11 +112,8 @@ impl<'a> Lists<'a> {
     }
 }
 
+/// Whether a message is a reply to the read, with whatever value.
 fn answers(query: &Query, message: &Message) -> bool {
     let fields = message.fields();
-    matches!(message.content, Content::Reply { .. })
-        && fields.group == query.group
-        && fields.process == query.process
-        && fields.variable == query.variable
-        && fields.timestamp == query.timestamp
+    fields == query.reply(fields.replica, fields.value)
 }
