@@ -8,8 +8,8 @@ const LIBRARY: &str = "../target/staticlib/libexport.a";
 fn main() {
     println!("cargo:rerun-if-changed=build.rs");
     let linked = env::var_os("CARGO_FEATURE_LINKED").is_some();
-    let fake = env::var_os("CARGO_FEATURE_FAKE").is_some();
-    if linked && !fake {
+    let mutants = env::var_os("CARGO_FEATURE_MUTANTS").is_some();
+    if linked && !mutants {
         println!("cargo:rerun-if-changed={LIBRARY}");
         link_if_present();
     }

@@ -1,4 +1,5 @@
-//! The C functions of libexport.a and a safe function for each of them.
+//! The C functions of libexport.a, as crates/export/failstop.h declares them,
+//! and a safe function for each of them.
 
 #![allow(unsafe_code)]
 
@@ -118,15 +119,20 @@ pub struct ValueResult {
 }
 
 extern "C" {
-    fn export_read_request(k: u8, n: u8, bytes: *const u8, length: usize) -> RequestResult;
-    fn export_read_message(k: u8, n: u8, bytes: *const u8, length: usize) -> MessageResult;
-    fn export_write_request(k: u8, n: u8, r: Request, bytes: *mut u8, length: usize) -> u8;
-    fn export_write_message(k: u8, n: u8, m: Message, bytes: *mut u8, length: usize) -> u8;
-    fn export_make(k: u8, n: u8, owner: u8, delta: u64, number: u8) -> ReplicaResult;
-    fn export_deliver(r: Replica, bytes: *const u8, length: usize, at: LocalTime) -> ReplicaResult;
-    fn export_step(r: Replica, at: LocalTime, output: *mut u8, length: usize) -> StepResult;
-    fn export_vote(k: u8, n: u8, q: Query, list: List) -> ValueResult;
-    fn export_count_halts(k: u8, n: u8, group: u8, process: u8, list: List) -> ValueResult;
+    fn failstop_read_request(k: u8, n: u8, bytes: *const u8, length: usize) -> RequestResult;
+    fn failstop_read_message(k: u8, n: u8, bytes: *const u8, length: usize) -> MessageResult;
+    fn failstop_write_request(k: u8, n: u8, r: Request, bytes: *mut u8, length: usize) -> u8;
+    fn failstop_write_message(k: u8, n: u8, m: Message, bytes: *mut u8, length: usize) -> u8;
+    fn failstop_make(k: u8, n: u8, owner: u8, delta: u64, number: u8) -> ReplicaResult;
+    fn failstop_deliver(
+        r: Replica,
+        bytes: *const u8,
+        length: usize,
+        at: LocalTime,
+    ) -> ReplicaResult;
+    fn failstop_step(r: Replica, at: LocalTime, output: *mut u8, length: usize) -> StepResult;
+    fn failstop_vote(k: u8, n: u8, q: Query, list: List) -> ValueResult;
+    fn failstop_count_halts(k: u8, n: u8, group: u8, process: u8, list: List) -> ValueResult;
 }
 
 // Each call lends a whole slice and passes plain numbers, of which all values
@@ -134,139 +140,45 @@ extern "C" {
 
 #[inline]
 pub fn read_request(k: u8, n: u8, bytes: &[u8]) -> RequestResult {
-    unsafe { export_read_request(k, n, bytes.as_ptr(), bytes.len()) }
+    unsafe { failstop_read_request(k, n, bytes.as_ptr(), bytes.len()) }
 }
 
 #[inline]
 pub fn read_message(k: u8, n: u8, bytes: &[u8]) -> MessageResult {
-    unsafe { export_read_message(k, n, bytes.as_ptr(), bytes.len()) }
+    unsafe { failstop_read_message(k, n, bytes.as_ptr(), bytes.len()) }
 }
 
 #[inline]
 pub fn write_request(k: u8, n: u8, request: Request, destination: &mut [u8]) -> u8 {
-    unsafe { export_write_request(k, n, request, destination.as_mut_ptr(), destination.len()) }
+    unsafe { failstop_write_request(k, n, request, destination.as_mut_ptr(), destination.len()) }
 }
 
 #[inline]
 pub fn write_message(k: u8, n: u8, message: Message, destination: &mut [u8]) -> u8 {
-    unsafe { export_write_message(k, n, message, destination.as_mut_ptr(), destination.len()) }
+    unsafe { failstop_write_message(k, n, message, destination.as_mut_ptr(), destination.len()) }
 }
 
 #[inline]
 pub fn make(k: u8, n: u8, owner: u8, delta: u64, number: u8) -> ReplicaResult {
-    unsafe { export_make(k, n, owner, delta, number) }
+    unsafe { failstop_make(k, n, owner, delta, number) }
 }
 
 #[inline]
 pub fn deliver(replica: Replica, bytes: &[u8], at: LocalTime) -> ReplicaResult {
-    unsafe { export_deliver(replica, bytes.as_ptr(), bytes.len(), at) }
+    unsafe { failstop_deliver(replica, bytes.as_ptr(), bytes.len(), at) }
 }
 
 #[inline]
 pub fn step(replica: Replica, at: LocalTime, output: &mut [u8]) -> StepResult {
-    unsafe { export_step(replica, at, output.as_mut_ptr(), output.len()) }
+    unsafe { failstop_step(replica, at, output.as_mut_ptr(), output.len()) }
 }
 
 #[inline]
 pub fn vote(k: u8, n: u8, query: Query, list: List) -> ValueResult {
-    unsafe { export_vote(k, n, query, list) }
+    unsafe { failstop_vote(k, n, query, list) }
 }
 
 #[inline]
 pub fn count_halts(k: u8, n: u8, group: u8, process: u8, list: List) -> ValueResult {
-    unsafe { export_count_halts(k, n, group, process, list) }
-}
-
-/// The same symbols over the model, in the place of libexport.a.
-///
-/// Each of them must be lent `length` bytes at the pointer.
-#[cfg(feature = "fake")]
-mod symbols {
-    use std::slice::{from_raw_parts, from_raw_parts_mut};
-
-    use super::*;
-    use crate::fake;
-
-    #[no_mangle]
-    unsafe extern "C" fn export_read_request(
-        k: u8,
-        n: u8,
-        bytes: *const u8,
-        length: usize,
-    ) -> RequestResult {
-        fake::read_request(k, n, from_raw_parts(bytes, length))
-    }
-
-    #[no_mangle]
-    unsafe extern "C" fn export_read_message(
-        k: u8,
-        n: u8,
-        bytes: *const u8,
-        length: usize,
-    ) -> MessageResult {
-        fake::read_message(k, n, from_raw_parts(bytes, length))
-    }
-
-    #[no_mangle]
-    unsafe extern "C" fn export_write_request(
-        k: u8,
-        n: u8,
-        r: Request,
-        bytes: *mut u8,
-        length: usize,
-    ) -> u8 {
-        fake::write_request(k, n, r, from_raw_parts_mut(bytes, length))
-    }
-
-    #[no_mangle]
-    unsafe extern "C" fn export_write_message(
-        k: u8,
-        n: u8,
-        m: Message,
-        bytes: *mut u8,
-        length: usize,
-    ) -> u8 {
-        fake::write_message(k, n, m, from_raw_parts_mut(bytes, length))
-    }
-
-    #[no_mangle]
-    extern "C" fn export_make(k: u8, n: u8, owner: u8, delta: u64, number: u8) -> ReplicaResult {
-        fake::make(k, n, owner, delta, number)
-    }
-
-    #[no_mangle]
-    unsafe extern "C" fn export_deliver(
-        r: Replica,
-        bytes: *const u8,
-        length: usize,
-        at: LocalTime,
-    ) -> ReplicaResult {
-        fake::deliver(r, from_raw_parts(bytes, length), at)
-    }
-
-    #[no_mangle]
-    unsafe extern "C" fn export_step(
-        r: Replica,
-        at: LocalTime,
-        output: *mut u8,
-        length: usize,
-    ) -> StepResult {
-        fake::step(r, at, from_raw_parts_mut(output, length))
-    }
-
-    #[no_mangle]
-    extern "C" fn export_vote(k: u8, n: u8, q: Query, list: List) -> ValueResult {
-        fake::vote(k, n, q, &list)
-    }
-
-    #[no_mangle]
-    extern "C" fn export_count_halts(
-        k: u8,
-        n: u8,
-        group: u8,
-        process: u8,
-        list: List,
-    ) -> ValueResult {
-        fake::count_halts(k, n, group, process, &list)
-    }
+    unsafe { failstop_count_halts(k, n, group, process, list) }
 }

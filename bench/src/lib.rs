@@ -3,7 +3,9 @@
 
 #![deny(unsafe_code)]
 
+pub mod difference;
 pub mod model;
+pub mod program;
 pub mod random;
 pub mod traffic;
 
@@ -11,18 +13,18 @@ pub mod traffic;
 pub mod convert;
 #[cfg(feature = "linked")]
 pub mod differential;
-#[cfg(feature = "fake")]
-pub mod fake;
 #[cfg(feature = "linked")]
 pub mod ffi;
+#[cfg(feature = "mutants")]
+pub mod mutants;
 #[cfg(feature = "linked")]
 pub mod simulation;
 
 /// What the model is compared with.
 #[cfg(feature = "linked")]
 pub fn other_side() -> &'static str {
-    if cfg!(feature = "fake") {
-        "the fake"
+    if cfg!(feature = "mutants") {
+        "the mutants"
     } else {
         "libexport.a"
     }

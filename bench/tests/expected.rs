@@ -132,10 +132,7 @@ impl Script {
                 String::new()
             }
             "vote" => self.vote(&n),
-            "halts" => answer(
-                count_halts(n.byte(0), n.byte(1), n.byte(2), n.byte(3), &self.heard),
-                |count| format!("count {count}"),
-            ),
+            "halts" => self.halts(&n),
             word => {
                 assert!(word.starts_with('#'), "no such line: {line}");
                 String::new()
@@ -180,6 +177,11 @@ impl Script {
             timestamp: Timestamp(n.long(5)),
         };
         answer(vote(n.byte(0), n.byte(1), &query, &self.heard), |value| format!("value {value}"))
+    }
+
+    fn halts(&self, n: &Numbers) -> String {
+        let counted = count_halts(n.byte(0), n.byte(1), n.byte(2), n.byte(3), &self.heard);
+        answer(counted, |count| format!("count {count}"))
     }
 }
 

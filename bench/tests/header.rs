@@ -1,4 +1,4 @@
-//! export.h is C, and its structs are as large as those of `ffi`.
+//! failstop.h is C, and its structs are as large as those of `ffi`.
 
 use std::io::Write;
 use std::mem::size_of;
@@ -9,33 +9,33 @@ use bench::ffi;
 #[test]
 fn header_is_c_with_the_same_structs() {
     let sizes = [
-        ("export_timestamp", size_of::<ffi::Timestamp>()),
-        ("export_local_time", size_of::<ffi::LocalTime>()),
-        ("export_request", size_of::<ffi::Request>()),
-        ("export_message", size_of::<ffi::Message>()),
-        ("export_pending", size_of::<ffi::Pending>()),
-        ("export_queue", size_of::<ffi::Queue>()),
-        ("export_replica", size_of::<ffi::Replica>()),
-        ("export_query", size_of::<ffi::Query>()),
-        ("export_list", size_of::<ffi::List>()),
-        ("export_request_result", size_of::<ffi::RequestResult>()),
-        ("export_message_result", size_of::<ffi::MessageResult>()),
-        ("export_replica_result", size_of::<ffi::ReplicaResult>()),
-        ("export_step_result", size_of::<ffi::StepResult>()),
-        ("export_value_result", size_of::<ffi::ValueResult>()),
+        ("failstop_timestamp", size_of::<ffi::Timestamp>()),
+        ("failstop_local_time", size_of::<ffi::LocalTime>()),
+        ("failstop_request", size_of::<ffi::Request>()),
+        ("failstop_message", size_of::<ffi::Message>()),
+        ("failstop_pending", size_of::<ffi::Pending>()),
+        ("failstop_queue", size_of::<ffi::Queue>()),
+        ("failstop_replica", size_of::<ffi::Replica>()),
+        ("failstop_query", size_of::<ffi::Query>()),
+        ("failstop_list", size_of::<ffi::List>()),
+        ("failstop_request_result", size_of::<ffi::RequestResult>()),
+        ("failstop_message_result", size_of::<ffi::MessageResult>()),
+        ("failstop_replica_result", size_of::<ffi::ReplicaResult>()),
+        ("failstop_step_result", size_of::<ffi::StepResult>()),
+        ("failstop_value_result", size_of::<ffi::ValueResult>()),
     ];
     let asserts: String = sizes
         .iter()
         .map(|(name, size)| format!("_Static_assert(sizeof({name}) == {size}, \"{name}\");\n"))
         .collect();
-    compile(&format!("#include \"export.h\"\n{asserts}"));
+    compile(&format!("#include \"failstop.h\"\n{asserts}"));
 }
 
 /// Checks a C file and writes nothing.
 fn compile(text: &str) {
     let mut child = Command::new("cc")
         .args(["-std=c11", "-Wall", "-Werror", "-fsyntax-only", "-x", "c", "-I"])
-        .args([env!("CARGO_MANIFEST_DIR"), "-"])
+        .args([concat!(env!("CARGO_MANIFEST_DIR"), "/../crates/export"), "-"])
         .stdin(Stdio::piped())
         .spawn()
         .expect("cc, which also links this test");

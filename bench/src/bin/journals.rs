@@ -5,22 +5,18 @@ use std::path::Path;
 use std::{env, fs, io};
 
 use bench::model::journal::{delivery_entry, setup_entry, step_entry, ENTRY_SIZE};
+use bench::model::record::{RequestFields, READ, WRITE};
+use bench::model::{Timestamp, RECORD_SIZE, TIME_LIMIT};
 use bench::random::Random;
 
 type Entry = [u8; ENTRY_SIZE];
-type Request = [u8; 24];
+type Request = [u8; RECORD_SIZE];
 
-const READ: u8 = 1;
-const WRITE: u8 = 2;
-const LAST_TIME: u64 = 1 << 62;
+const LAST_TIME: u64 = TIME_LIMIT.0;
 
 fn request(kind: u8, group: u8, process: u8, variable: u16, stamp: u64, value: u32) -> Request {
-    let mut bytes = [0; 24];
-    bytes[..3].copy_from_slice(&[kind, group, process]);
-    bytes[4..6].copy_from_slice(&variable.to_be_bytes());
-    bytes[8..16].copy_from_slice(&stamp.to_be_bytes());
-    bytes[16..20].copy_from_slice(&value.to_be_bytes());
-    bytes
+    let timestamp = Timestamp(stamp);
+    RequestFields { kind, group, process, variable, timestamp, value }.encode()
 }
 
 /// A read by group 1.
@@ -72,9 +68,9 @@ fn main() -> io::Result<()> {
         std::process::exit(64);
     };
     let folder = Path::new(&folder);
-    let journals =
-        [plain(), refused_first(), refused(), examples(), units(), ends(), random(), long()];
-    for (name, bytes) in journals.concat() {
+    let refused = [refused_first(), refused_requests(), refused_calls(), refused_records()];
+    let others = [plain(), examples(), units(), ends(), random(), long()];
+    for (name, bytes) in [refused.concat(), others.concat()].concat() {
         fs::write(folder.join(name), bytes)?;
     }
     Ok(())
@@ -122,19 +118,17 @@ fn refused_first() -> Journals {
     ]
 }
 
-/// Later records that are refused, all for one reason; the last record is a turn that shows that
-/// nothing changed.
-fn refused() -> Journals {
-    let entries = |list: &[Entry]| example(&[list, &[step_entry(1, LAST_TIME)]].concat());
-    let requests = |list: &[Request]| entries(&all(1, 100, list));
-    let turn = step_entry(1, 100);
-    let delivery = delivery_entry(1, 100, &read(1, 3, 51));
-    let mut full = all(1, 100, &[read(1, 3, 51); 65]);
-    full.extend([step_entry(1, 106), delivery_entry(1, 107, &read(1, 3, 52))]);
+/// A unit in which later records are refused; the last record is a turn that shows that nothing
+/// changed.
+fn unchanged(entries: &[Entry]) -> Vec<u8> {
+    example(&[entries, &[step_entry(1, LAST_TIME)]].concat())
+}
+
+/// Requests that are refused, all of a journal for one reason.
+fn refused_requests() -> Journals {
+    let requests = |list: &[Request]| unchanged(&all(1, 100, list));
+    let not_zero = [3, 6, 7, 16, 17, 18, 19, 20, 21, 22, 23];
     vec![
-        // Cards 0, 4 and 255 of three.
-        ("no-05", entries(&[0, 4, 255].map(|card| with(delivery, 1, card)))),
-        ("no-05-turn", entries(&[0, 4, 255].map(|card| with(turn, 1, card)))),
         // Kinds 0, 3, 4 and 255.
         ("no-07", requests(&[0, 3, 4, 255].map(|kind| request(kind, 1, 1, 3, 51, 0)))),
         // Groups 0 and 3 of two; program cards 0 and 3 of two.
@@ -146,65 +140,62 @@ fn refused() -> Journals {
             requests(&[write(1, 0, 51, 9), write(1, 256, 51, 9), read(1, 256, 51), read(1, 0, 52)]),
         ),
         // Byte 3, bytes 6–7 and 20–23, and the value of a read.
-        (
-            "no-11",
-            requests(
-                &[3, 6, 7, 16, 17, 18, 19, 20, 21, 22, 23].map(|at| with(read(1, 3, 51), at, 1)),
-            ),
-        ),
-        // Past 2^62, delivery and turn; at 2^62 both are accepted, and the next turn is not ripe.
-        (
-            "no-12",
-            entries(&[
-                delivery_entry(1, LAST_TIME + 1, &read(1, 3, 51)),
-                delivery_entry(1, u64::MAX, &read(1, 3, 51)),
-                step_entry(1, LAST_TIME + 1),
-                step_entry(1, u64::MAX),
-                delivery_entry(1, LAST_TIME, &read(1, 3, 51)),
-            ]),
-        ),
-        // Below the last accepted reading, of a delivery and of a turn; an equal one is accepted, a
-        // refused one does not count, and each card has its own.
-        (
-            "no-13",
-            entries(&[
-                delivery,
-                delivery_entry(1, 99, &read(1, 3, 51)),
-                step_entry(1, 99),
-                delivery,
-                step_entry(1, 103),
-                delivery_entry(1, 102, &read(1, 3, 52)),
-                step_entry(2, 1),
-                step_entry(1, 103),
-            ]),
-        ),
+        ("no-11", requests(&not_zero.map(|at| with(read(1, 3, 51), at, 1)))),
+    ]
+}
+
+/// Times that are refused, and a delivery without room.
+fn refused_calls() -> Journals {
+    let at = |time, stamp| delivery_entry(1, time, &read(1, 3, stamp));
+    let mut full = all(1, 100, &[read(1, 3, 51); 65]);
+    full.extend([step_entry(1, 106), at(107, 52)]);
+    // Past 2^62, delivery and turn; at 2^62 both are accepted, and the next turn is not ripe.
+    let too_late = [
+        at(LAST_TIME + 1, 51),
+        at(u64::MAX, 51),
+        step_entry(1, LAST_TIME + 1),
+        step_entry(1, u64::MAX),
+        at(LAST_TIME, 51),
+    ];
+    // Below the last accepted reading, of a delivery and of a turn; an equal one is accepted, a
+    // refused one does not count, and each card has its own.
+    let backwards = [
+        at(100, 51),
+        at(99, 51),
+        step_entry(1, 99),
+        at(100, 51),
+        step_entry(1, 103),
+        at(102, 52),
+        step_entry(2, 1),
+        step_entry(1, 103),
+    ];
+    vec![
+        ("no-12", unchanged(&too_late)),
+        ("no-13", unchanged(&backwards)),
         // "Also run": the 64th delivery is accepted, the 65th not; a turn makes room again.
-        ("no-14", entries(&full)),
+        ("no-14", unchanged(&full)),
+    ]
+}
+
+/// Records of the journal that are refused, all for one reason but for the last journal.
+fn refused_records() -> Journals {
+    let turn = step_entry(1, 100);
+    let delivery = delivery_entry(1, 100, &read(1, 3, 51));
+    let unused = (2..40).filter(|at| !(8..16).contains(at));
+    let kinds = [0, 4, 255].map(|kind| with(turn, 0, kind));
+    vec![
+        // Cards 0, 4 and 255 of three.
+        ("no-05", unchanged(&[0, 4, 255].map(|card| with(delivery, 1, card)))),
+        ("no-05-turn", unchanged(&[0, 4, 255].map(|card| with(turn, 1, card)))),
         // A setup in the middle, and kinds that there are not.
-        (
-            "no-19",
-            entries(&[
-                setup_entry(1, 2, 1, 5),
-                with(turn, 0, 0),
-                with(turn, 0, 4),
-                with(turn, 0, 255),
-            ]),
-        ),
+        ("no-19", unchanged(&[&[setup_entry(1, 2, 1, 5)], &kinds[..]].concat())),
         // Bytes 2–7 of a delivery.
-        ("no-20", entries(&[2, 3, 4, 5, 6, 7].map(|at| with(delivery, at, 1)))),
+        ("no-20", unchanged(&[2, 3, 4, 5, 6, 7].map(|at| with(delivery, at, 1)))),
         // Bytes 2–7 and 16–39 of a turn.
-        (
-            "no-20-turn",
-            entries(
-                &(2..40)
-                    .filter(|at| !(8..16).contains(at))
-                    .map(|at| with(turn, at, 1))
-                    .collect::<Vec<_>>(),
-            ),
-        ),
+        ("no-20-turn", unchanged(&unused.map(|at| with(turn, at, 1)).collect::<Vec<_>>())),
         // Everything is wrong; then one thing after the other is put right, in the order of the
         // questions: 19, 5, 20, 7, 8, 9, 10, 11, 12, 13.
-        ("questions-in-order", entries(&put_right())),
+        ("questions-in-order", unchanged(&put_right())),
     ]
 }
 
@@ -300,32 +291,14 @@ fn units() -> Journals {
 
 /// Stamps, values, variables, readings and δ at their upper ends.
 fn ends() -> Journals {
-    let list = [
+    let first = LAST_TIME - 1_000_001;
+    let write = |process| request(WRITE, 4, process, 255, u64::MAX - 1, u32::MAX);
+    let mut list = vec![
         setup_entry(3, 4, 4, 1_000_000),
-        delivery_entry(7, LAST_TIME - 1_000_001, &request(READ, 4, 4, 255, u64::MAX, 0)),
-        delivery_entry(
-            7,
-            LAST_TIME - 1_000_001,
-            &request(WRITE, 4, 1, 255, u64::MAX - 1, u32::MAX),
-        ),
-        delivery_entry(
-            7,
-            LAST_TIME - 1_000_001,
-            &request(WRITE, 4, 2, 255, u64::MAX - 1, u32::MAX),
-        ),
-        delivery_entry(
-            7,
-            LAST_TIME - 1_000_001,
-            &request(WRITE, 4, 3, 255, u64::MAX - 1, u32::MAX),
-        ),
-        delivery_entry(
-            7,
-            LAST_TIME - 1_000_001,
-            &request(WRITE, 4, 4, 255, u64::MAX - 1, u32::MAX),
-        ),
-        step_entry(7, LAST_TIME - 1),
-        step_entry(7, LAST_TIME),
+        delivery_entry(7, first, &request(READ, 4, 4, 255, u64::MAX, 0)),
     ];
+    list.extend((1..=4).map(|process| delivery_entry(7, first, &write(process))));
+    list.extend([step_entry(7, LAST_TIME - 1), step_entry(7, LAST_TIME)]);
     vec![("upper-ends", list.concat())]
 }
 

@@ -2,10 +2,10 @@
 
 use std::io::{self, BufWriter, Write};
 
-#[cfg(feature = "fake")]
-use bench::fake::journal::play;
-#[cfg(not(feature = "fake"))]
+#[cfg(not(feature = "mutants"))]
 use bench::model::journal::play;
+#[cfg(feature = "mutants")]
+use bench::mutants::journal::play;
 
 fn main() -> io::Result<()> {
     let mut text = BufWriter::new(io::stdout().lock());

@@ -13,11 +13,11 @@ use bench::convert::{to_list, to_replica};
 use bench::differential::journals;
 use bench::ffi;
 use bench::model::journal::{delivery_entry, play, setup_entry, step_entry};
-use bench::model::record::{self, Content, Message, MessageFields, Operation, Request};
+use bench::model::record::{self, MessageFields, Operation, Request, HALT};
 use bench::model::replica::Replica;
 use bench::model::vote::{count_halts, vote, Query};
 use bench::model::{
-    by_value, LocalTime, Refusal, Timestamp, LIST_LIMIT, OUTPUT_SIZE, PENDING_LIMIT,
+    by_value, LocalTime, Refusal, Timestamp, LIST_LIMIT, OUTPUT_SIZE, PENDING_LIMIT, RECORD_SIZE,
 };
 use bench::random::Random;
 use bench::traffic::{Cast, Traffic};
@@ -37,6 +37,8 @@ const K: u8 = 1;
 const GROUPS: u8 = 2;
 const OWNER: u8 = 1;
 const DELTA: u64 = 5;
+/// What votes are on.
+const QUERY: Query = Query { group: OWNER, process: 1, variable: 4, timestamp: Timestamp(10) };
 
 fn main() -> io::Result<()> {
     println!("timing, {}: best of {}, in ns for one call", bench::other_side(), BEST_OF * ROUNDS);
@@ -97,15 +99,10 @@ fn request(process: u8, stamp: u64, operation: Operation) -> Request {
     Request { group: OWNER, process, variable: 4, timestamp: Timestamp(stamp), operation }
 }
 
-fn reply(replica: u8, value: u32) -> Message {
-    let content = Content::Reply { variable: 4, value };
-    Message { group: OWNER, process: 1, replica, timestamp: Timestamp(10), content }
-}
-
 fn records(table: &mut Table) {
     let requests: Vec<Request> =
         (0..64).map(|i| request(1 + (i & 1) as u8, i, Operation::Write(i as u32))).collect();
-    let messages: Vec<Message> = (0..64).map(|i| reply(1 + (i % 3) as u8, i)).collect();
+    let messages: Vec<_> = (0..64).map(|i| QUERY.reply(1 + (i % 3) as u8, i)).collect();
     read_requests(table, &requests);
     read_messages(table, &messages);
     write_requests(table, &requests);
@@ -117,65 +114,50 @@ fn see<T>(result: &T) {
     black_box(result);
 }
 
-/// Calls `work` with each of the items in turn, `CALLS` times.
-fn in_turn<T>(items: &[T], mut work: impl FnMut(&T)) {
-    for item in items.iter().cycle().take(CALLS) {
-        work(black_box(item));
-    }
+/// The best time of a call, made with each of the items in turn.
+fn best_in_turn<T>(items: &[T], mut work: impl FnMut(&T)) -> f64 {
+    best(CALLS, || {
+        for item in items.iter().cycle().take(CALLS) {
+            work(black_box(item));
+        }
+    })
 }
 
 fn read_requests(table: &mut Table, requests: &[Request]) {
-    let bytes: Vec<[u8; 24]> = requests.iter().map(Request::encode).collect();
-    let verified = best(CALLS, || {
-        in_turn(&bytes, |b| see(&ffi::read_request(K, GROUPS, b)));
-    });
-    let model = best(CALLS, || {
-        in_turn(&bytes, |b| see(&record::read_request(K, GROUPS, b)));
-    });
+    let bytes: Vec<_> = requests.iter().map(Request::encode).collect();
+    let verified = best_in_turn(&bytes, |b| see(&ffi::read_request(K, GROUPS, b)));
+    let model = best_in_turn(&bytes, |b| see(&record::read_request(K, GROUPS, b)));
     table.note("read a request", verified, model);
 }
 
-fn read_messages(table: &mut Table, messages: &[Message]) {
-    let bytes: Vec<[u8; 24]> = messages.iter().map(Message::encode).collect();
-    let verified = best(CALLS, || {
-        in_turn(&bytes, |b| see(&ffi::read_message(K, GROUPS, b)));
-    });
-    let model = best(CALLS, || {
-        in_turn(&bytes, |b| see(&record::read_message(K, GROUPS, b)));
-    });
+fn read_messages(table: &mut Table, messages: &[MessageFields]) {
+    let bytes: Vec<_> = messages.iter().map(MessageFields::encode).collect();
+    let verified = best_in_turn(&bytes, |b| see(&ffi::read_message(K, GROUPS, b)));
+    let model = best_in_turn(&bytes, |b| see(&record::read_message(K, GROUPS, b)));
     table.note("read a message", verified, model);
 }
 
 fn write_requests(table: &mut Table, requests: &[Request]) {
-    let mut place = [0; 24];
+    let mut place = [0; RECORD_SIZE];
     let fields: Vec<_> = requests.iter().map(Request::fields).collect();
     let structs: Vec<ffi::Request> = fields.iter().map(|f| (*f).into()).collect();
-    let verified = best(CALLS, || {
-        in_turn(&structs, |r| {
-            see(&ffi::write_request(K, GROUPS, *r, black_box(&mut place)));
-        });
+    let verified = best_in_turn(&structs, |r| {
+        see(&ffi::write_request(K, GROUPS, *r, black_box(&mut place)));
     });
-    let model = best(CALLS, || {
-        in_turn(&fields, |f| {
-            see(&record::write_request(K, GROUPS, f, black_box(&mut place)));
-        });
+    let model = best_in_turn(&fields, |f| {
+        see(&record::write_request(K, GROUPS, f, black_box(&mut place)));
     });
     table.note("write a request", verified, model);
 }
 
-fn write_messages(table: &mut Table, messages: &[Message]) {
-    let mut place = [0; 24];
-    let fields: Vec<_> = messages.iter().map(Message::fields).collect();
-    let structs: Vec<ffi::Message> = fields.iter().map(|f| (*f).into()).collect();
-    let verified = best(CALLS, || {
-        in_turn(&structs, |m| {
-            see(&ffi::write_message(K, GROUPS, *m, black_box(&mut place)));
-        });
+fn write_messages(table: &mut Table, messages: &[MessageFields]) {
+    let mut place = [0; RECORD_SIZE];
+    let structs: Vec<ffi::Message> = messages.iter().map(|f| (*f).into()).collect();
+    let verified = best_in_turn(&structs, |m| {
+        see(&ffi::write_message(K, GROUPS, *m, black_box(&mut place)));
     });
-    let model = best(CALLS, || {
-        in_turn(&fields, |f| {
-            see(&record::write_message(K, GROUPS, f, black_box(&mut place)));
-        });
+    let model = best_in_turn(messages, |f| {
+        see(&record::write_message(K, GROUPS, f, black_box(&mut place)));
     });
     table.note("write a message", verified, model);
 }
@@ -190,7 +172,7 @@ fn new_by_value() -> by_value::Replica {
 
 /// Fills a new replica, again and again.
 fn delivery(table: &mut Table) {
-    let bytes: Vec<[u8; 24]> =
+    let bytes: Vec<_> =
         (0..PENDING_LIMIT as u64).map(|i| request(1, i, Operation::Read).encode()).collect();
     let rounds = CALLS / PENDING_LIMIT;
     let calls = rounds * PENDING_LIMIT;
@@ -201,7 +183,7 @@ fn delivery(table: &mut Table) {
     table.note("deliver (model: by value)", verified, by_value);
 }
 
-fn fill_verified(bytes: &[[u8; 24]]) {
+fn fill_verified(bytes: &[[u8; RECORD_SIZE]]) {
     let mut replica = ffi::make(K, GROUPS, OWNER, DELTA, 1).replica;
     for request in bytes {
         let found = ffi::deliver(replica, black_box(request), ffi::LocalTime(100));
@@ -211,7 +193,7 @@ fn fill_verified(bytes: &[[u8; 24]]) {
     see(&replica);
 }
 
-fn fill_model(bytes: &[[u8; 24]]) {
+fn fill_model(bytes: &[[u8; RECORD_SIZE]]) {
     let mut replica = new_model();
     for request in bytes {
         see(&replica.deliver(black_box(request), LocalTime(100)));
@@ -219,7 +201,7 @@ fn fill_model(bytes: &[[u8; 24]]) {
     see(&replica);
 }
 
-fn fill_by_value(bytes: &[[u8; 24]]) {
+fn fill_by_value(bytes: &[[u8; RECORD_SIZE]]) {
     let mut replica = new_by_value();
     for request in bytes {
         let (next, result) = replica.deliver(black_box(request), LocalTime(100));
@@ -291,29 +273,22 @@ fn step_by_value(replica: by_value::Replica, at: u64) -> f64 {
     })
 }
 
+/// The best time of a call over a list of messages, which is made fewer times.
+fn best_over_list(mut work: impl FnMut()) -> f64 {
+    let calls = CALLS / 10;
+    best(calls, || (0..calls).for_each(|_| work()))
+}
+
 /// A vote and a halt count over 64 messages.
 fn votes(table: &mut Table) {
-    let query = Query { group: OWNER, process: 1, variable: 4, timestamp: Timestamp(10) };
-    let messages: Vec<MessageFields> =
-        (0..LIST_LIMIT).map(|i| reply(1 + (i % 3) as u8, 7).fields()).collect();
+    let messages: Vec<_> = (0..LIST_LIMIT).map(|i| QUERY.reply(1 + (i % 3) as u8, 7)).collect();
     let list = to_list(&messages, MessageFields::default());
     let fixed: [MessageFields; LIST_LIMIT] = std::array::from_fn(|i| messages[i]);
-    let calls = CALLS / 10;
-    let verified = best(calls, || {
-        for _ in 0..calls {
-            see(&ffi::vote(K, GROUPS, query.into(), *black_box(&list)));
-        }
+    let verified = best_over_list(|| {
+        see(&ffi::vote(K, GROUPS, QUERY.into(), *black_box(&list)));
     });
-    let by_reference = best(calls, || {
-        for _ in 0..calls {
-            see(&vote(K, GROUPS, &query, black_box(&messages)));
-        }
-    });
-    let by_value = best(calls, || {
-        for _ in 0..calls {
-            see(&vote_by_value(&query, *black_box(&fixed)));
-        }
-    });
+    let by_reference = best_over_list(|| see(&vote(K, GROUPS, &QUERY, black_box(&messages))));
+    let by_value = best_over_list(|| see(&vote_by_value(&QUERY, *black_box(&fixed))));
     table.note("vote over 64 messages (&)", verified, by_reference);
     table.note("vote over 64 messages (value)", verified, by_value);
     halts(table, &messages);
@@ -325,19 +300,14 @@ fn vote_by_value(query: &Query, list: [MessageFields; LIST_LIMIT]) -> Result<u32
 }
 
 fn halts(table: &mut Table, replies: &[MessageFields]) {
-    let halt = |m: &MessageFields| MessageFields { kind: 4, variable: 0, value: 0, ..*m };
-    let messages: Vec<MessageFields> = replies.iter().map(halt).collect();
+    let halt = |m: &MessageFields| MessageFields { kind: HALT, variable: 0, value: 0, ..*m };
+    let messages: Vec<_> = replies.iter().map(halt).collect();
     let list = to_list(&messages, MessageFields::default());
-    let calls = CALLS / 10;
-    let verified = best(calls, || {
-        for _ in 0..calls {
-            see(&ffi::count_halts(K, GROUPS, OWNER, 1, *black_box(&list)));
-        }
+    let verified = best_over_list(|| {
+        see(&ffi::count_halts(K, GROUPS, OWNER, 1, *black_box(&list)));
     });
-    let model = best(calls, || {
-        for _ in 0..calls {
-            see(&count_halts(K, GROUPS, OWNER, 1, black_box(&messages)));
-        }
+    let model = best_over_list(|| {
+        see(&count_halts(K, GROUPS, OWNER, 1, black_box(&messages)));
     });
     table.note("halt count over 64 messages", verified, model);
 }

@@ -7,7 +7,8 @@ use std::thread;
 
 use super::records::damage;
 use super::tally::{Call, Event, Tally};
-use super::{same, Difference, Outcome};
+use super::{same, Outcome};
+use crate::difference::Difference;
 use crate::model::journal::{delivery_entry, play_bytes, setup_entry, step_entry, ENTRY_SIZE};
 use crate::model::{DELTA_LIMIT, PENDING_LIMIT, RECORD_SIZE, TIME_LIMIT};
 use crate::random::Random;
@@ -22,9 +23,9 @@ pub fn program() -> PathBuf {
     }
 }
 
-/// Whether journals are compared: not with the fake, unless it is given one.
+/// Whether journals are compared: not with the mutants, unless a program is named.
 pub fn wanted() -> bool {
-    !cfg!(feature = "fake") || std::env::var_os("JOURNAL").is_some()
+    !cfg!(feature = "mutants") || std::env::var_os("JOURNAL").is_some()
 }
 
 /// One journal, fed in odd pieces.

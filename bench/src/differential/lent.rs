@@ -1,6 +1,6 @@
 //! Bytes lent to a call, with others on both sides that nobody was lent.
 
-use super::{same, Outcome};
+use super::{same_lists, Outcome};
 use crate::random::Random;
 
 const MARGIN: usize = 64;
@@ -33,7 +33,7 @@ impl Lent {
     /// The lent part must be as expected, the margins as they were.
     pub fn check(&self, expected: &[u8], input: impl Fn() -> String) -> Outcome {
         let end = self.now.len() - MARGIN;
-        same_bytes("lent byte", expected, &self.now[MARGIN..end], &input)?;
+        same_lists("lent byte", expected, &self.now[MARGIN..end], &input)?;
         self.check_margins(input)
     }
 
@@ -41,15 +41,7 @@ impl Lent {
     pub fn check_margins(&self, input: impl Fn() -> String) -> Outcome {
         let end = self.now.len() - MARGIN;
         let (before, now) = (&self.before, &self.now);
-        same_bytes("not lent, before, byte", &before[..MARGIN], &now[..MARGIN], &input)?;
-        same_bytes("not lent, behind, byte", &before[end..], &now[end..], &input)
-    }
-}
-
-/// Compares bytes and names the first place where they differ.
-fn same_bytes(what: &str, expected: &[u8], found: &[u8], input: impl Fn() -> String) -> Outcome {
-    match expected.iter().zip(found).position(|(e, f)| e != f) {
-        Some(place) => same(&format!("{what} {place}"), expected[place], found[place], &input),
-        None => same(&format!("{what}s"), expected.len(), found.len(), input),
+        same_lists("not lent, before, byte", &before[..MARGIN], &now[..MARGIN], &input)?;
+        same_lists("not lent, behind, byte", &before[end..], &now[end..], &input)
     }
 }

@@ -12,12 +12,7 @@ pub mod votes;
 
 use std::fmt::Debug;
 
-/// The first thing in which the two sides differ, and the input that shows it.
-#[derive(Clone, Debug)]
-pub struct Difference {
-    pub what: String,
-    pub input: String,
-}
+use crate::difference::{compare, compare_lists, Difference};
 
 /// Nothing where both sides agree.
 pub type Outcome = Result<(), Difference>;
@@ -29,9 +24,15 @@ pub fn same<T: PartialEq + Debug>(
     found: T,
     input: impl FnOnce() -> String,
 ) -> Outcome {
-    if expected == found {
-        return Ok(());
-    }
-    let what = format!("{what}: the model says {expected:?}, the other side {found:?}");
-    Err(Difference { what, input: input() })
+    compare(what, expected, found).map_err(|what| Difference { what, input: input() })
+}
+
+/// The same for each place of two lists.
+pub fn same_lists<T: PartialEq + Debug>(
+    what: &str,
+    expected: &[T],
+    found: &[T],
+    input: impl FnOnce() -> String,
+) -> Outcome {
+    compare_lists(what, expected, found).map_err(|what| Difference { what, input: input() })
 }

@@ -6,12 +6,13 @@ use std::fmt::{self, Display, Formatter};
 use super::lent::Lent;
 use super::records::some_request;
 use super::tally::{Call, Event, Tally};
-use super::{same, Outcome};
+use super::{same, same_lists, Outcome};
+use crate::difference::Difference;
 use crate::ffi;
 use crate::model::record::{Request, REPLY};
 use crate::model::replica::{Pending, Replica};
 use crate::model::{number_of, LocalTime, OUTPUT_SIZE, PENDING_LIMIT, RECORD_SIZE, STEP_MESSAGES};
-use crate::model::{Refusal, Timestamp, TIME_LIMIT, VARIABLES};
+use crate::model::{Refusal, Timestamp, TIME_LIMIT};
 use crate::random::Random;
 
 /// The arguments of making a replica.
@@ -62,7 +63,7 @@ pub struct Pair {
 }
 
 /// Makes both replicas, or none where both sides refuse.
-pub fn make(making: Making, tally: &mut Tally) -> Result<Option<Pair>, super::Difference> {
+pub fn make(making: Making, tally: &mut Tally) -> Result<Option<Pair>, Difference> {
     let input = || format!("make {making:?}");
     let expected = making.model();
     let found = making.other();
@@ -251,18 +252,6 @@ fn note_messages(output: &[u8], tally: &mut Tally) {
     }
 }
 
-/// Compares the variables and names the first that differs.
-fn same_variables(
-    expected: &[u32; VARIABLES],
-    found: &[u32; VARIABLES],
-    input: &dyn Fn() -> String,
-) -> Outcome {
-    match (0..VARIABLES).find(|&variable| expected[variable] != found[variable]) {
-        Some(v) => same(&format!("variable {v}"), expected[v], found[v], input),
-        None => Ok(()),
-    }
-}
-
 /// Compares all that the interface settles of a replica.
 fn same_replica(model: &Replica, other: &ffi::Replica, input: &dyn Fn() -> String) -> Outcome {
     let settings = |k, groups, owner, number, delta| (k, groups, owner, number, delta);
@@ -280,7 +269,7 @@ fn same_replica(model: &Replica, other: &ffi::Replica, input: &dyn Fn() -> Strin
     )?;
     same("last local time", model.last.0, other.last.0, input)?;
     same("performed writes", model.writes, other.writes, input)?;
-    same_variables(&model.variables, &other.variables, input)?;
+    same_lists("variable", &model.variables, &other.variables, input)?;
     same("number of pending requests", model.pending.len(), other.queue.count, input)?;
     for (expected, found) in model.pending.iter().zip(&other.queue.pending) {
         same("pending request", ffi::Pending::from(expected), *found, input)?;

@@ -1,12 +1,14 @@
 //! Records: bytes of every length, valid and damaged, read by both sides, and
 //! fields, allowed or not, written by both sides.
 
+use std::fmt::Debug;
+
 use super::lent::Lent;
 use super::tally::{Call, Event, Tally};
-use super::{same, Outcome};
+use super::{same, same_lists, Outcome};
 use crate::ffi;
 use crate::model::record::{self, MessageFields, RequestFields};
-use crate::model::{number_of, Timestamp, RECORD_SIZE};
+use crate::model::{number_of, Refusal, Timestamp, RECORD_SIZE};
 use crate::random::Random;
 use crate::traffic;
 
@@ -135,79 +137,77 @@ pub fn damage(bytes: &mut [u8], random: &mut Random) {
 
 fn read_request(k: u8, n: u8, bytes: &[u8], tally: &mut Tally) -> Outcome {
     let input = || format!("read request, k {k}, n {n}, bytes {bytes:?}");
-    let expected = record::read_request(k, n, bytes);
+    let expected = record::read_request(k, n, bytes).map(|request| request.fields());
     let found = ffi::read_request(k, n, bytes);
     tally.answer(Call::ReadRequest, number_of(&expected));
-    same("refusal", number_of(&expected), found.refusal, input)?;
-    let fields = expected.map(|request| request.fields()).unwrap_or_default();
-    same("request", fields, found.request.into(), input)?;
-    match expected {
-        Ok(_) => written_again(k, n, &found.request, bytes),
-        Err(_) => Ok(()),
-    }
-}
-
-/// What was read must be written in the same form.
-fn written_again(k: u8, n: u8, request: &ffi::Request, bytes: &[u8]) -> Outcome {
-    let input = || format!("write what was read, k {k}, n {n}, bytes {bytes:?}");
-    let mut destination = [0xff; RECORD_SIZE];
-    let refusal = ffi::write_request(k, n, *request, &mut destination);
-    same("refusal", 0, refusal, input)?;
-    same("bytes", bytes, &destination[..], input)
+    same_reading(expected, (found.refusal, found.request.into()), input)?;
+    let write = |place: &mut [u8]| ffi::write_request(k, n, found.request, place);
+    written_again(found.refusal, bytes, write, input)
 }
 
 fn read_message(k: u8, n: u8, bytes: &[u8], tally: &mut Tally) -> Outcome {
     let input = || format!("read message, k {k}, n {n}, bytes {bytes:?}");
-    let expected = record::read_message(k, n, bytes);
+    let expected = record::read_message(k, n, bytes).map(|message| message.fields());
     let found = ffi::read_message(k, n, bytes);
     tally.answer(Call::ReadMessage, number_of(&expected));
-    same("refusal", number_of(&expected), found.refusal, input)?;
-    let fields = expected.map(|message| message.fields()).unwrap_or_default();
-    same("message", fields, found.message.into(), input)?;
-    match expected {
-        Ok(_) => message_written_again(k, n, &found.message, bytes),
-        Err(_) => Ok(()),
+    same_reading(expected, (found.refusal, found.message.into()), input)?;
+    let write = |place: &mut [u8]| ffi::write_message(k, n, found.message, place);
+    written_again(found.refusal, bytes, write, input)
+}
+
+/// Compares the refusal and the fields, which are zero beside a refusal.
+fn same_reading<F: Debug + Default + PartialEq>(
+    expected: Result<F, Refusal>,
+    found: (u8, F),
+    input: impl Fn() -> String,
+) -> Outcome {
+    same("refusal", number_of(&expected), found.0, &input)?;
+    same("fields", expected.unwrap_or_default(), found.1, &input)
+}
+
+/// What was read must be written in the same form.
+fn written_again(
+    refusal: u8,
+    bytes: &[u8],
+    write: impl Fn(&mut [u8]) -> u8,
+    input: impl Fn() -> String,
+) -> Outcome {
+    if refusal != 0 {
+        return Ok(());
     }
-}
-
-fn message_written_again(k: u8, n: u8, message: &ffi::Message, bytes: &[u8]) -> Outcome {
-    let input = || format!("write what was read, k {k}, n {n}, bytes {bytes:?}");
     let mut destination = [0xff; RECORD_SIZE];
-    let refusal = ffi::write_message(k, n, *message, &mut destination);
-    same("refusal", 0, refusal, input)?;
-    same("bytes", bytes, &destination[..], input)
+    same("refusal to write it again", 0, write(&mut destination), &input)?;
+    same_lists("byte written again, at", bytes, &destination, &input)
 }
 
-fn write_request(
-    k: u8,
-    n: u8,
-    fields: RequestFields,
-    mut lent: Lent,
-    tally: &mut Tally,
-) -> Outcome {
-    let mut expected_bytes = lent.original();
-    let length = expected_bytes.len();
-    let input = || format!("write request, k {k}, n {n}, {fields:?} to {length} bytes");
-    let expected = record::write_request(k, n, &fields, &mut expected_bytes);
-    let refusal = ffi::write_request(k, n, fields.into(), lent.lend());
-    tally.answer(Call::WriteRequest, number_of(&expected));
-    same("refusal", number_of(&expected), refusal, input)?;
-    lent.check(&expected_bytes, input)
+fn write_request(k: u8, n: u8, fields: RequestFields, lent: Lent, tally: &mut Tally) -> Outcome {
+    let input = || format!("write request, k {k}, n {n}, {fields:?}");
+    let expected = |place: &mut [u8]| record::write_request(k, n, &fields, place);
+    let found = |place: &mut [u8]| ffi::write_request(k, n, fields.into(), place);
+    same_writing(Call::WriteRequest, expected, found, lent, tally, input)
 }
 
-fn write_message(
-    k: u8,
-    n: u8,
-    fields: MessageFields,
+fn write_message(k: u8, n: u8, fields: MessageFields, lent: Lent, tally: &mut Tally) -> Outcome {
+    let input = || format!("write message, k {k}, n {n}, {fields:?}");
+    let expected = |place: &mut [u8]| record::write_message(k, n, &fields, place);
+    let found = |place: &mut [u8]| ffi::write_message(k, n, fields.into(), place);
+    same_writing(Call::WriteMessage, expected, found, lent, tally, input)
+}
+
+/// Has both sides write to equal bytes.
+fn same_writing(
+    call: Call,
+    expected: impl Fn(&mut [u8]) -> Result<(), Refusal>,
+    found: impl Fn(&mut [u8]) -> u8,
     mut lent: Lent,
     tally: &mut Tally,
+    input: impl Fn() -> String,
 ) -> Outcome {
-    let mut expected_bytes = lent.original();
-    let length = expected_bytes.len();
-    let input = || format!("write message, k {k}, n {n}, {fields:?} to {length} bytes");
-    let expected = record::write_message(k, n, &fields, &mut expected_bytes);
-    let refusal = ffi::write_message(k, n, fields.into(), lent.lend());
-    tally.answer(Call::WriteMessage, number_of(&expected));
-    same("refusal", number_of(&expected), refusal, input)?;
-    lent.check(&expected_bytes, input)
+    let mut bytes = lent.original();
+    let length = bytes.len();
+    let input = || format!("{} to {length} bytes", input());
+    let expected = expected(&mut bytes);
+    tally.answer(call, number_of(&expected));
+    same("refusal", number_of(&expected), found(lent.lend()), input)?;
+    lent.check(&bytes, input)
 }

@@ -6,7 +6,7 @@ use super::tally::{Call, Event, Tally};
 use super::{same, Outcome};
 use crate::convert::to_list;
 use crate::ffi;
-use crate::model::record::{MessageFields, HALT, REPLY};
+use crate::model::record::{MessageFields, HALT};
 use crate::model::vote::{count_halts, vote, Query};
 use crate::model::{number_of, Settings, Timestamp, LIST_LIMIT};
 use crate::random::Random;
@@ -27,7 +27,7 @@ pub fn run(random: &mut Random, tally: &mut Tally) -> Outcome {
     let case = some_case(random);
     note_list(&case, tally);
     // What stands behind the list would win the vote if it were counted.
-    let rest = reply(&case.query, 1, 77);
+    let rest = case.query.reply(1, 77);
     let list = to_list(&case.list, rest);
     compare_votes(&case, list, tally)?;
     compare_halts(&case, list, tally)
@@ -105,20 +105,8 @@ fn some_query(k: u8, n: u8, random: &mut Random) -> Query {
     }
 }
 
-fn reply(query: &Query, replica: u8, value: u32) -> MessageFields {
-    MessageFields {
-        kind: REPLY,
-        group: query.group,
-        process: query.process,
-        replica,
-        variable: query.variable,
-        timestamp: query.timestamp,
-        value,
-    }
-}
-
 fn halt(query: &Query, replica: u8) -> MessageFields {
-    MessageFields { kind: HALT, variable: 0, ..reply(query, replica, 0) }
+    MessageFields { kind: HALT, variable: 0, ..query.reply(replica, 0) }
 }
 
 /// The next message of a list.
@@ -135,7 +123,7 @@ fn some_entry(
     let value = opinions[usize::from(replica)];
     let fitting = match halting {
         true => halt(query, replica),
-        false => reply(query, replica, value),
+        false => query.reply(replica, value),
     };
     match random.below(16) {
         0 => repeat(before, fitting, random),

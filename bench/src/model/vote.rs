@@ -1,6 +1,6 @@
 //! The vote on a read and the halt count, over lists of messages.
 
-use super::record::{Content, Message, MessageFields};
+use super::record::{Content, Message, MessageFields, REPLY};
 use super::{ask, Refusal, Settings, Timestamp, LIST_LIMIT};
 
 /// The read that a vote is about.
@@ -10,6 +10,21 @@ pub struct Query {
     pub process: u8,
     pub variable: u16,
     pub timestamp: Timestamp,
+}
+
+impl Query {
+    /// A reply to the read.
+    pub fn reply(&self, replica: u8, value: u32) -> MessageFields {
+        MessageFields {
+            kind: REPLY,
+            group: self.group,
+            process: self.process,
+            replica,
+            variable: self.variable,
+            timestamp: self.timestamp,
+            value,
+        }
+    }
 }
 
 /// The value that at least k+1 different replicas replied.

@@ -1,8 +1,9 @@
 //! The bus: when each request reaches a replica, and the run that follows.
 
-use super::{Counts, Plan, Run};
+use super::counts::Counts;
+use super::plan::Plan;
 use crate::ffi;
-use crate::model::record::Request;
+use crate::model::record::{Message, Request};
 use crate::model::{Settings, Timestamp, OUTPUT_SIZE, RECORD_SIZE, TIME_LIMIT};
 use crate::random::Random;
 use crate::traffic::{batch, Sort};
@@ -125,6 +126,16 @@ fn add_troubles(end: u64, schedule: &mut Schedule, random: &mut Random) {
     }
 }
 
+/// What a correct replica did.
+pub struct Run {
+    pub number: u8,
+    pub replica: ffi::Replica,
+    /// The owner's accepted requests in order of arrival.
+    pub accepted: Vec<Request>,
+    /// All messages of its accepted steps, in order.
+    pub messages: Vec<Message>,
+}
+
 /// A correct replica while its schedule is played.
 struct Player<'a> {
     settings: Settings,
@@ -240,7 +251,7 @@ impl Player<'_> {
 #[cfg(test)]
 mod tests {
     use super::*;
-    use crate::simulation::some_plan;
+    use crate::simulation::plan::some_plan;
 
     /// The owner's arrivals of a schedule with their local times.
     fn arrivals(schedule: &Schedule) -> Vec<(Timestamp, u64)> {

@@ -3,7 +3,7 @@
 use std::fmt::{self, Display, Formatter};
 
 use super::liars::WAYS;
-use super::Plan;
+use super::plan::Plan;
 use crate::model::machine::Machine;
 use crate::model::record::Content;
 

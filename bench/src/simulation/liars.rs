@@ -1,7 +1,7 @@
 //! Replicas that lie, each in its own way.
 
 use crate::model::machine::Machine;
-use crate::model::record::{Content, Message, MessageFields, Operation, Request, REPLY};
+use crate::model::record::{Content, Message, MessageFields, Operation, Request};
 use crate::model::vote::Query;
 use crate::model::Timestamp;
 use crate::random::Random;
@@ -100,7 +100,7 @@ impl Liar {
         right: u32,
         random: &mut Random,
     ) -> Vec<MessageFields> {
-        let reply = |value| self.reply(query, value);
+        let reply = |value| query.reply(self.number, value);
         match self.way {
             Way::Silent => Vec::new(),
             Way::Constant(value) => vec![reply(value); 1 + random.index(3)],
@@ -122,18 +122,6 @@ impl Liar {
                 .flat_map(|halt| in_other_names(scene, halt, random))
                 .collect(),
             _ => self.halts(scene, random),
-        }
-    }
-
-    fn reply(&self, query: &Query, value: u32) -> MessageFields {
-        MessageFields {
-            kind: REPLY,
-            group: query.group,
-            process: query.process,
-            replica: self.number,
-            variable: query.variable,
-            timestamp: query.timestamp,
-            value,
         }
     }
 

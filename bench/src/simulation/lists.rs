@@ -1,7 +1,9 @@
 //! Lists of messages: unforged, whole, within 64, in any order.
 
+use super::bus::Run;
+use super::counts::Counts;
 use super::liars::Scene;
-use super::{Counts, Plan, Run};
+use super::plan::Plan;
 use crate::model::machine::Machine;
 use crate::model::record::{Content, Message, MessageFields, Request};
 use crate::model::vote::Query;
@@ -10,15 +12,15 @@ use crate::random::Random;
 
 /// All that lists are built from.
 pub struct Lists<'a> {
-    plan: &'a Plan,
+    pub plan: &'a Plan,
+    pub machine: &'a Machine,
     runs: &'a [Run],
-    machine: &'a Machine,
     requests: Vec<Request>,
 }
 
 impl<'a> Lists<'a> {
     pub fn new(plan: &'a Plan, runs: &'a [Run], machine: &'a Machine) -> Lists<'a> {
-        Lists { plan, runs, machine, requests: plan.bag.concat() }
+        Lists { plan, machine, runs, requests: plan.bag.concat() }
     }
 
     fn scene(&self) -> Scene<'_> {
@@ -110,11 +112,8 @@ impl<'a> Lists<'a> {
     }
 }
 
+/// Whether a message is a reply to the read, with whatever value.
 fn answers(query: &Query, message: &Message) -> bool {
     let fields = message.fields();
-    matches!(message.content, Content::Reply { .. })
-        && fields.group == query.group
-        && fields.process == query.process
-        && fields.variable == query.variable
-        && fields.timestamp == query.timestamp
+    fields == query.reply(fields.replica, fields.value)
 }

@@ -8,47 +8,29 @@ mod bus;
 mod counts;
 mod liars;
 mod lists;
+mod plan;
 
 pub use counts::Counts;
 
 use crate::convert::to_list;
+use crate::difference::{compare, compare_lists, Difference};
 use crate::ffi;
 use crate::model::machine::Machine;
-use crate::model::record::{Content, Message, MessageFields, Request, HALT, REPLY};
+use crate::model::record::{Content, Message, MessageFields, HALT, REPLY};
 use crate::model::vote::{count_halts, Query};
 use crate::random::Random;
 use crate::traffic::Cast;
 
-use bag::some_bag;
-use bus::{play, some_schedule};
-use liars::{some_liars, Liar};
+use bus::{play, some_schedule, Run};
 use lists::Lists;
+use plan::{some_plan, Plan};
 
-/// What a unit is made of.
-#[derive(Debug)]
-struct Plan {
-    cast: Cast,
-    delta: u64,
-    liars: Vec<Liar>,
-    /// The owner's requests, by rising timestamp.
-    bag: Vec<Vec<Request>>,
-}
-
-/// What a correct replica did.
-struct Run {
-    number: u8,
-    replica: ffi::Replica,
-    /// The owner's accepted requests in order of arrival.
-    accepted: Vec<Request>,
-    /// All messages of its accepted steps, in order.
-    messages: Vec<Message>,
-}
-
-/// One generated unit. The plan comes with a difference.
-pub fn unit(random: &mut Random, counts: &mut Counts) -> Result<(), String> {
+/// Simulates one generated unit. The plan comes with a difference.
+pub fn simulate(random: &mut Random, counts: &mut Counts) -> Result<(), Difference> {
     let plan = some_plan(random);
     counts.plan(&plan);
-    carry_out(&plan, random, counts).map_err(|what| format!("{what}\ninput: {plan:?}"))
+    let done = carry_out(&plan, random, counts);
+    done.map_err(|what| Difference { what, input: format!("{plan:?}") })
 }
 
 fn carry_out(plan: &Plan, random: &mut Random, counts: &mut Counts) -> Result<(), String> {
@@ -62,26 +44,8 @@ fn carry_out(plan: &Plan, random: &mut Random, counts: &mut Counts) -> Result<()
         compare_with_machine(plan, run)?;
     }
     let lists = Lists::new(plan, &runs, &machine);
-    votes(plan, &machine, &lists, random, counts)?;
-    halts(plan, &machine, &lists, random, counts)
-}
-
-fn some_plan(random: &mut Random) -> Plan {
-    let groups = random.small(1, 4);
-    let cast = Cast { k: random.small(1, 3), groups, owner: random.small(1, groups) };
-    let delta = random.pick(&[0, 1, 2, 5, 17, 1_000, 1_000_000]);
-    let liars = some_liars(cast, random);
-    Plan { cast, delta, liars, bag: some_bag(cast, random) }
-}
-
-impl Plan {
-    fn is_correct(&self, replica: u8) -> bool {
-        self.liars.iter().all(|liar| liar.number != replica)
-    }
-
-    fn correct(&self) -> impl Iterator<Item = u8> + '_ {
-        (1..=self.cast.replicas()).filter(|&replica| self.is_correct(replica))
-    }
+    votes(&lists, random, counts)?;
+    halts(&lists, random, counts)
 }
 
 /// The runs of all correct replicas; nothing where one of them had no room
@@ -108,34 +72,16 @@ fn compare_with_machine(plan: &Plan, run: &Run) -> Result<(), String> {
     let machine = Machine::run(k, owner, &run.accepted);
     let sent: Vec<Message> = run.messages.iter().copied().filter(|m| m.group == owner).collect();
     let number = run.number;
-    for (variable, expected) in machine.variables.iter().enumerate() {
-        let found = run.replica.variables[variable];
-        if *expected != found {
-            same(&format!("variable {variable} of replica {number}"), *expected, found)?;
-        }
-    }
-    same(&format!("writes of replica {number}"), machine.writes, run.replica.writes)?;
-    same(&format!("messages of replica {number}"), machine.messages(number), sent)
-}
-
-fn same<T: PartialEq + std::fmt::Debug>(what: &str, expected: T, found: T) -> Result<(), String> {
-    if expected == found {
-        Ok(())
-    } else {
-        Err(format!("{what}: the machine says {expected:?}, found {found:?}"))
-    }
+    let variables = &run.replica.variables;
+    compare_lists(&format!("replica {number}, variable"), &machine.variables, variables)?;
+    compare(&format!("writes of replica {number}"), machine.writes, run.replica.writes)?;
+    compare(&format!("messages of replica {number}"), machine.messages(number), sent)
 }
 
 /// The vote on each of the owner's unmixed reads.
-fn votes(
-    plan: &Plan,
-    machine: &Machine,
-    lists: &Lists,
-    random: &mut Random,
-    counts: &mut Counts,
-) -> Result<(), String> {
-    let Cast { k, groups, owner } = plan.cast;
-    for saying in &machine.sayings {
+fn votes(lists: &Lists, random: &mut Random, counts: &mut Counts) -> Result<(), String> {
+    let Cast { k, groups, owner } = lists.plan.cast;
+    for saying in &lists.machine.sayings {
         let Content::Reply { variable, value } = saying.content else { continue };
         let query = Query {
             group: owner,
@@ -147,29 +93,23 @@ fn votes(
         let found = ffi::vote(k, groups, query.into(), to_list(&list, noise(random)));
         counts.votes += 1;
         let what = format!("vote {query:?} over {list:?}");
-        same(&what, (0, u64::from(value)), (found.refusal, found.value))?;
+        compare(&what, (0, u64::from(value)), (found.refusal, found.value))?;
     }
     Ok(())
 }
 
 /// The halt count for each process of the owner.
-fn halts(
-    plan: &Plan,
-    machine: &Machine,
-    lists: &Lists,
-    random: &mut Random,
-    counts: &mut Counts,
-) -> Result<(), String> {
-    let Cast { k, groups, owner } = plan.cast;
-    for process in 1..=plan.cast.processes() {
+fn halts(lists: &Lists, random: &mut Random, counts: &mut Counts) -> Result<(), String> {
+    let Cast { k, groups, owner } = lists.plan.cast;
+    for process in 1..=lists.plan.cast.processes() {
         let list = lists.for_halts(process, random, counts);
         let found = ffi::count_halts(k, groups, owner, process, to_list(&list, noise(random)));
         counts.halt_counts += 1;
         let what = format!("halt count for process {process} over {list:?}");
         let expected = count_halts(k, groups, owner, process, &list).unwrap_or(0) as u64;
-        same(&what, (0, expected), (found.refusal, found.value))?;
+        compare(&what, (0, expected), (found.refusal, found.value))?;
         let must_halt = found.value > u64::from(k);
-        same(&format!("must halt, {what}"), machine.failed(), must_halt)?;
+        compare(&format!("must halt, {what}"), lists.machine.failed(), must_halt)?;
     }
     Ok(())
 }

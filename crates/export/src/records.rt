@@ -93,21 +93,21 @@ fn message_result(read: MessageRead) -> MessageResult
 }
 
 #[no_mangle]
-pub extern "C" fn export_read_request(k: u8, n: u8, bytes: &[u8]) -> RequestResult
+pub extern "C" fn failstop_read_request(k: u8, n: u8, bytes: &[u8]) -> RequestResult
     ensures { λ r. ⌜ r ≡ requestResult (readRequest k n (now (bytes .entry))) ⌝ }
 {
     request_result(record::read_request(k, n, bytes))
 }
 
 #[no_mangle]
-pub extern "C" fn export_read_message(k: u8, n: u8, bytes: &[u8]) -> MessageResult
+pub extern "C" fn failstop_read_message(k: u8, n: u8, bytes: &[u8]) -> MessageResult
     ensures { λ r. ⌜ r ≡ messageResult (readMessage k n (now (bytes .entry))) ⌝ }
 {
     message_result(record::read_message(k, n, bytes))
 }
 
 #[no_mangle]
-pub extern "C" fn export_write_request(k: u8, n: u8, r: Request, destination: &mut [u8]) -> u8
+pub extern "C" fn failstop_write_request(k: u8, n: u8, r: Request, destination: &mut [u8]) -> u8
     ensures answer { λ q. ⌜ q ≡ refusalOf (verdict (writeRequest k n r (now (destination .entry)))) ⌝ }
     ensures content { λ q. ⌜ now (destination .exit) ≡ after (now (destination .entry)) (writeRequest k n r (now (destination .entry))) ⌝ }
 {
@@ -115,7 +115,7 @@ pub extern "C" fn export_write_request(k: u8, n: u8, r: Request, destination: &m
 }
 
 #[no_mangle]
-pub extern "C" fn export_write_message(k: u8, n: u8, m: Message, destination: &mut [u8]) -> u8
+pub extern "C" fn failstop_write_message(k: u8, n: u8, m: Message, destination: &mut [u8]) -> u8
     ensures answer { λ q. ⌜ q ≡ refusalOf (verdict (writeMessage k n m (now (destination .entry)))) ⌝ }
     ensures content { λ q. ⌜ now (destination .exit) ≡ after (now (destination .entry)) (writeMessage k n m (now (destination .entry))) ⌝ }
 {

@@ -45,7 +45,7 @@ fn sent(a: StepAnswer) -> usize
 }
 
 #[no_mangle]
-pub extern "C" fn export_make(k: u8, n: u8, owner: u8, delta: u64, number: u8) -> ReplicaResult
+pub extern "C" fn failstop_make(k: u8, n: u8, owner: u8, delta: u64, number: u8) -> ReplicaResult
     ensures answer { λ m. ⌜ m .refusal ≡ refusalOf (verdict (make (settings k n owner delta) number)) ⌝ }
     ensures state { λ m. ⌜ stateOf (m .replica) ≡ after leastState (make (settings k n owner delta) number) ⌝ }
 {
@@ -59,7 +59,7 @@ pub extern "C" fn export_make(k: u8, n: u8, owner: u8, delta: u64, number: u8) -
 }
 
 #[no_mangle]
-pub extern "C" fn export_deliver(r: Replica, bytes: &[u8], at: LocalTime) -> ReplicaResult
+pub extern "C" fn failstop_deliver(r: Replica, bytes: &[u8], at: LocalTime) -> ReplicaResult
     ensures answer { λ d. ⌜ d .refusal ≡ refusalOf (verdict (deliver (stateOf r) (now (bytes .entry)) at)) ⌝ }
     ensures state { λ d. ⌜ stateOf (d .replica) ≡ after (stateOf r) (deliver (stateOf r) (now (bytes .entry)) at) ⌝ }
     ensures kept { λ d. ⌜ ((q : ℕ) → deliver (stateOf r) (now (bytes .entry)) at ≡ refused q → d .replica ≡ r) ⌝ }
@@ -74,7 +74,7 @@ pub extern "C" fn export_deliver(r: Replica, bytes: &[u8], at: LocalTime) -> Rep
 }
 
 #[no_mangle]
-pub extern "C" fn export_step(r: Replica, at: LocalTime, output: &mut [u8]) -> StepResult
+pub extern "C" fn failstop_step(r: Replica, at: LocalTime, output: &mut [u8]) -> StepResult
     ensures answer { λ s. ⌜ s .refusal ≡ refusalOf (bind (step (stateOf r) at (now (output .entry))) (λ d. given (d .count))) ⌝ }
     ensures count { λ s. ⌜ s .count ≡ after 0 (bind (step (stateOf r) at (now (output .entry))) (λ d. given (d .count))) ⌝ }
     ensures state { λ s. ⌜ stateOf (s .replica) ≡ after (stateOf r) (bind (step (stateOf r) at (now (output .entry))) (λ d. given (d .state))) ⌝ }

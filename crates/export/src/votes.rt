@@ -48,7 +48,7 @@ fn halt_result(a: HaltAnswer) -> ValueResult
 }
 
 #[no_mangle]
-pub extern "C" fn export_vote(k: u8, n: u8, q: Query, list: List) -> ValueResult
+pub extern "C" fn failstop_vote(k: u8, n: u8, q: Query, list: List) -> ValueResult
     ensures { λ r. ⌜ r ≡ valueResult (vote k n q (take (list .count) (list .messages))) ⌝ }
 {
     let messages = list.messages;
@@ -56,7 +56,7 @@ pub extern "C" fn export_vote(k: u8, n: u8, q: Query, list: List) -> ValueResult
 }
 
 #[no_mangle]
-pub extern "C" fn export_count_halts(
+pub extern "C" fn failstop_count_halts(
     k: u8,
     n: u8,
     group: u8,

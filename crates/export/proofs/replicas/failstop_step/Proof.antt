@@ -1,8 +1,8 @@
 use mathlib.Core.Path.{ap, _∙_}
 use Rattle.question.specs.Question.{given, bind}
 use borrow.Author.Needs.{needs}
-use Rattle.export.proofs.replicas.export_step.Statement.{statement}
-use Rattle.export.proofs.replicas.export_step.Tie as tie
+use Rattle.export.proofs.replicas.failstop_step.Statement.{statement}
+use Rattle.export.proofs.replicas.failstop_step.Tie as tie
 
 step-requires : tie.Need-step-requires
 step-requires c κs = search needs
@@ -26,6 +26,6 @@ returns c =
       ),
     )
 
-pub export-step-spec : {M : Type 1} → statement M
-export-step-spec =
+pub failstop-step-spec : {M : Type 1} → statement M
+failstop-step-spec =
     tie.close (tie.spec step-requires refusal-of-step-requires sent-requires same-length returns)

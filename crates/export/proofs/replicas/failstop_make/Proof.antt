@@ -1,6 +1,6 @@
 use borrow.Author.Needs.{needs}
-use Rattle.export.proofs.replicas.export_make.Statement.{statement}
-use Rattle.export.proofs.replicas.export_make.Tie as tie
+use Rattle.export.proofs.replicas.failstop_make.Statement.{statement}
+use Rattle.export.proofs.replicas.failstop_make.Tie as tie
 
 make-requires : tie.Need-make-requires
 make-requires c κs = search needs
@@ -13,5 +13,5 @@ returns c =
     let made = c .before .before .make .ensures in
     (rw (c .refusal-of .ensures, made .0), made .1)
 
-pub export-make-spec : {M : Type 1} → statement M
-export-make-spec = tie.close (tie.spec make-requires refusal-of-requires returns)
+pub failstop-make-spec : {M : Type 1} → statement M
+failstop-make-spec = tie.close (tie.spec make-requires refusal-of-requires returns)

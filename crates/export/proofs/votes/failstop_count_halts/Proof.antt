@@ -1,6 +1,6 @@
 use borrow.Author.Needs.{needs}
-use Rattle.export.proofs.votes.export_count_halts.Statement.{statement}
-use Rattle.export.proofs.votes.export_count_halts.Tie as tie
+use Rattle.export.proofs.votes.failstop_count_halts.Statement.{statement}
+use Rattle.export.proofs.votes.failstop_count_halts.Tie as tie
 
 count-halts-in-requires : tie.Need-count-halts-in-requires
 count-halts-in-requires c κs = search needs
@@ -11,5 +11,6 @@ halt-result-requires c κs = search needs
 returns : tie.Need-returns
 returns c = rw (c .halt-result .ensures, c .before .count-halts-in .ensures)
 
-pub export-count-halts-spec : {M : Type 1} → statement M
-export-count-halts-spec = tie.close (tie.spec count-halts-in-requires halt-result-requires returns)
+pub failstop-count-halts-spec : {M : Type 1} → statement M
+failstop-count-halts-spec =
+    tie.close (tie.spec count-halts-in-requires halt-result-requires returns)

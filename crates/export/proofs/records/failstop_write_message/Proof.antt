@@ -1,6 +1,6 @@
 use borrow.Author.Needs.{needs}
-use Rattle.export.proofs.records.export_write_message.Statement.{statement}
-use Rattle.export.proofs.records.export_write_message.Tie as tie
+use Rattle.export.proofs.records.failstop_write_message.Statement.{statement}
+use Rattle.export.proofs.records.failstop_write_message.Tie as tie
 
 write-message-requires : tie.Need-write-message-requires
 write-message-requires c κs = search needs
@@ -16,6 +16,6 @@ returns c =
     let wrote = c .before .before .before .write-message .ensures in
     (rw (c .refusal-of .ensures, wrote .0), wrote .1)
 
-pub export-write-message-spec : {M : Type 1} → statement M
-export-write-message-spec =
+pub failstop-write-message-spec : {M : Type 1} → statement M
+failstop-write-message-spec =
     tie.close (tie.spec write-message-requires refusal-of-requires same-length returns)

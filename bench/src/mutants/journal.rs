@@ -1,12 +1,12 @@
-//! The journal program over the model, with the bug of the number in
-//! JOURNAL_BUG, if there is one.
+//! The journal program over the model; where JOURNAL_MUTANT is a number, the
+//! mutant of that number.
 
 use std::io::{self, Read, Write};
 
 use crate::model::journal::{play_bytes, ENTRY_SIZE};
 
-/// The bugs, by their number from 1.
-pub const BUGS: [&str; 8] = [
+/// The bug of each mutant, by its number from 1.
+pub const MUTANTS: [&str; 8] = [
     "a short read is taken for the end of the input",
     "a part of a record at the end is dropped",
     "places count from 0",
@@ -19,24 +19,24 @@ pub const BUGS: [&str; 8] = [
 
 /// Plays a whole journal.
 pub fn play<R: Read, W: Write>(mut input: R, mut text: W) -> io::Result<()> {
-    let bug = chosen();
-    let mut journal = read(&mut input, bug)?;
-    match bug {
+    let mutant = chosen();
+    let mut journal = read(&mut input, mutant)?;
+    match mutant {
         2 => journal.truncate(journal.len() / ENTRY_SIZE * ENTRY_SIZE),
         7 => clear_unused(&mut journal),
         8 => journal.truncate(1 << 16),
         _ => {}
     }
-    text.write_all(&spoiled(&journal, bug))
+    text.write_all(&spoiled(&journal, mutant))
 }
 
 fn chosen() -> usize {
-    std::env::var("JOURNAL_BUG").ok().and_then(|number| number.parse().ok()).unwrap_or(0)
+    std::env::var("JOURNAL_MUTANT").ok().and_then(|number| number.parse().ok()).unwrap_or(0)
 }
 
-fn read<R: Read>(input: &mut R, bug: usize) -> io::Result<Vec<u8>> {
+fn read<R: Read>(input: &mut R, mutant: usize) -> io::Result<Vec<u8>> {
     let mut journal = Vec::new();
-    if bug != 1 {
+    if mutant != 1 {
         input.read_to_end(&mut journal)?;
         return Ok(journal);
     }
@@ -56,9 +56,9 @@ fn clear_unused(journal: &mut [u8]) {
     }
 }
 
-fn spoiled(journal: &[u8], bug: usize) -> Vec<u8> {
+fn spoiled(journal: &[u8], mutant: usize) -> Vec<u8> {
     let text = play_bytes(journal);
-    match bug {
+    match mutant {
         3 => edit(&text, |line| Some(from_0(line))),
         4 if text.starts_with(b"no 1 ") && journal.len() > ENTRY_SIZE => {
             [text, play_bytes(&journal[ENTRY_SIZE..])].concat()

@@ -1,6 +1,6 @@
 use borrow.Author.Needs.{needs}
-use Rattle.export.proofs.records.export_write_request.Statement.{statement}
-use Rattle.export.proofs.records.export_write_request.Tie as tie
+use Rattle.export.proofs.records.failstop_write_request.Statement.{statement}
+use Rattle.export.proofs.records.failstop_write_request.Tie as tie
 
 write-request-requires : tie.Need-write-request-requires
 write-request-requires c κs = search needs
@@ -16,6 +16,6 @@ returns c =
     let wrote = c .before .before .before .write-request .ensures in
     (rw (c .refusal-of .ensures, wrote .0), wrote .1)
 
-pub export-write-request-spec : {M : Type 1} → statement M
-export-write-request-spec =
+pub failstop-write-request-spec : {M : Type 1} → statement M
+failstop-write-request-spec =
     tie.close (tie.spec write-request-requires refusal-of-requires same-length returns)

@@ -1,14 +1,14 @@
-//! Shows that the harness can fail: each bug of the fake must be found.
+//! Shows that the harness can fail: each mutant must be found.
 //!
-//! Runs `differential` and `unit`, built with the feature `fake` and standing
-//! beside this program, once without a bug and once with each of them.
+//! Runs `differential` and `simulation`, built with the feature `mutants` and standing
+//! beside this program, once without a mutant and once with each of them.
 
 use std::io;
 use std::path::{Path, PathBuf};
 use std::process::{Command, ExitCode};
 
-use bench::fake::bugs::BUGS;
-use bench::fake::journal;
+use bench::mutants::journal;
+use bench::mutants::list::MUTANTS;
 
 const RUNS: &str = "20000";
 const UNITS: &str = "4000";
@@ -16,7 +16,7 @@ const UNITS: &str = "4000";
 /// The programs that stand beside this one.
 struct Programs {
     differential: PathBuf,
-    unit: PathBuf,
+    simulation: PathBuf,
     journal: PathBuf,
 }
 
@@ -31,59 +31,59 @@ fn main() -> io::Result<ExitCode> {
     let beside = |name| here.with_file_name(name);
     let programs = Programs {
         differential: beside("differential"),
-        unit: beside("unit"),
+        simulation: beside("simulation"),
         journal: beside("model_journal"),
     };
     let unnoticed =
-        without_bug(&programs)? + bugs_of_calls(&programs)? + bugs_of_journals(&programs)?;
-    println!("{} bugs, {unnoticed} wrong verdicts", BUGS.len() + journal::BUGS.len());
+        without_mutant(&programs)? + mutants_of_calls(&programs)? + mutants_of_journals(&programs)?;
+    println!("{} mutants, {unnoticed} wrong verdicts", MUTANTS.len() + journal::MUTANTS.len());
     Ok(if unnoticed == 0 { ExitCode::SUCCESS } else { ExitCode::FAILURE })
 }
 
-/// Without a bug both programs must pass.
-fn without_bug(programs: &Programs) -> io::Result<usize> {
+/// Without a mutant both programs must pass.
+fn without_mutant(programs: &Programs) -> io::Result<usize> {
     let journal = programs.journal.as_os_str();
     let verdicts = [
         run(Command::new(&programs.differential).arg(RUNS).env("JOURNAL", journal))?,
-        run(Command::new(&programs.unit).arg(UNITS))?,
+        run(Command::new(&programs.simulation).arg(UNITS))?,
     ];
     for verdict in &verdicts {
-        println!("no bug: {}", if verdict.passed { "passed" } else { "NOT PASSED" });
+        println!("no mutant: {}", if verdict.passed { "passed" } else { "NOT PASSED" });
     }
     Ok(verdicts.iter().filter(|verdict| !verdict.passed).count())
 }
 
-/// The differential must find each bug, the unit those that show in it.
-fn bugs_of_calls(programs: &Programs) -> io::Result<usize> {
+/// The differential must find each mutant, the simulation those that show in it.
+fn mutants_of_calls(programs: &Programs) -> io::Result<usize> {
     let mut unnoticed = 0;
-    for (place, (_, what, shows_in_unit)) in BUGS.iter().enumerate() {
+    for (place, (_, what, shows_in_simulation)) in MUTANTS.iter().enumerate() {
         let number = (place + 1).to_string();
-        println!("bug {number}: {what}");
-        let with_bug = |program: &Path, amount| {
-            run(Command::new(program).arg(amount).env("FAKE_BUG", &number))
-        };
-        unnoticed += report("differential", true, with_bug(&programs.differential, RUNS)?);
-        unnoticed += report("unit", *shows_in_unit, with_bug(&programs.unit, UNITS)?);
+        println!("mutant {number}: {what}");
+        let with_mutant =
+            |program: &Path, amount| run(Command::new(program).arg(amount).env("MUTANT", &number));
+        unnoticed += report("differential", true, with_mutant(&programs.differential, RUNS)?);
+        unnoticed +=
+            report("simulation", *shows_in_simulation, with_mutant(&programs.simulation, UNITS)?);
     }
     Ok(unnoticed)
 }
 
-/// The differential must find each bug of the journal program.
-fn bugs_of_journals(programs: &Programs) -> io::Result<usize> {
+/// The differential must find each mutant of the journal program.
+fn mutants_of_journals(programs: &Programs) -> io::Result<usize> {
     let mut unnoticed = 0;
-    for (place, what) in journal::BUGS.iter().enumerate() {
+    for (place, what) in journal::MUTANTS.iter().enumerate() {
         let number = (place + 1).to_string();
-        println!("journal bug {number}: {what}");
+        println!("journal mutant {number}: {what}");
         let verdict = run(Command::new(&programs.differential)
             .arg(RUNS)
             .env("JOURNAL", &programs.journal)
-            .env("JOURNAL_BUG", &number))?;
+            .env("JOURNAL_MUTANT", &number))?;
         unnoticed += report("differential", true, verdict);
     }
     Ok(unnoticed)
 }
 
-/// Prints a verdict; 1 if it must find the bug and did not.
+/// Prints a verdict; 1 if it must find the mutant and did not.
 fn report(program: &str, must_find: bool, verdict: Verdict) -> usize {
     match verdict.difference {
         Some(line) => {

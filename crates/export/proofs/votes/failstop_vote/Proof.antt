@@ -1,6 +1,6 @@
 use borrow.Author.Needs.{needs}
-use Rattle.export.proofs.votes.export_vote.Statement.{statement}
-use Rattle.export.proofs.votes.export_vote.Tie as tie
+use Rattle.export.proofs.votes.failstop_vote.Statement.{statement}
+use Rattle.export.proofs.votes.failstop_vote.Tie as tie
 
 vote-in-requires : tie.Need-vote-in-requires
 vote-in-requires c κs = search needs
@@ -11,5 +11,5 @@ vote-result-requires c κs = search needs
 returns : tie.Need-returns
 returns c = rw (c .vote-result .ensures, c .before .vote-in .ensures)
 
-pub export-vote-spec : {M : Type 1} → statement M
-export-vote-spec = tie.close (tie.spec vote-in-requires vote-result-requires returns)
+pub failstop-vote-spec : {M : Type 1} → statement M
+failstop-vote-spec = tie.close (tie.spec vote-in-requires vote-result-requires returns)

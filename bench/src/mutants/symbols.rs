@@ -1,0 +1,125 @@
+//! The C functions over the mutants, in the place of those of libexport.a.
+
+#![allow(unsafe_code)]
+
+use std::slice::{from_raw_parts, from_raw_parts_mut};
+
+use super::{records, replicas, steps, votes};
+use crate::convert::{from_replica, to_replica};
+use crate::ffi;
+use crate::model::record::MessageFields;
+use crate::model::replica::Replica;
+use crate::model::{number_of, LocalTime, Refusal, LIST_LIMIT};
+
+// Each of them must be lent `length` bytes at its pointer, as `ffi` does.
+
+#[no_mangle]
+unsafe extern "C" fn failstop_read_request(
+    k: u8,
+    n: u8,
+    bytes: *const u8,
+    length: usize,
+) -> ffi::RequestResult {
+    let result = records::read_request(k, n, from_raw_parts(bytes, length));
+    let fields = result.map(|request| request.fields()).unwrap_or_default();
+    ffi::RequestResult { refusal: number_of(&result), request: fields.into() }
+}
+
+#[no_mangle]
+unsafe extern "C" fn failstop_read_message(
+    k: u8,
+    n: u8,
+    bytes: *const u8,
+    length: usize,
+) -> ffi::MessageResult {
+    let result = records::read_message(k, n, from_raw_parts(bytes, length));
+    let fields = result.map(|message| message.fields()).unwrap_or_default();
+    ffi::MessageResult { refusal: number_of(&result), message: fields.into() }
+}
+
+#[no_mangle]
+unsafe extern "C" fn failstop_write_request(
+    k: u8,
+    n: u8,
+    r: ffi::Request,
+    bytes: *mut u8,
+    length: usize,
+) -> u8 {
+    number_of(&records::write_request(k, n, &r.into(), from_raw_parts_mut(bytes, length)))
+}
+
+#[no_mangle]
+unsafe extern "C" fn failstop_write_message(
+    k: u8,
+    n: u8,
+    m: ffi::Message,
+    bytes: *mut u8,
+    length: usize,
+) -> u8 {
+    number_of(&records::write_message(k, n, &m.into(), from_raw_parts_mut(bytes, length)))
+}
+
+#[no_mangle]
+extern "C" fn failstop_make(k: u8, n: u8, owner: u8, delta: u64, number: u8) -> ffi::ReplicaResult {
+    let result = replicas::make(k, n, owner, delta, number);
+    let refusal = number_of(&result);
+    let replica = result.unwrap_or_else(|_| Replica::make(0, 1, 1, 0, 1).expect("allowed"));
+    ffi::ReplicaResult { refusal, replica: to_replica(&replica) }
+}
+
+#[no_mangle]
+unsafe extern "C" fn failstop_deliver(
+    r: ffi::Replica,
+    bytes: *const u8,
+    length: usize,
+    at: ffi::LocalTime,
+) -> ffi::ReplicaResult {
+    let Some(mut model) = from_replica(&r) else {
+        return ffi::ReplicaResult { refusal: Refusal::K.number(), replica: r };
+    };
+    let bytes = from_raw_parts(bytes, length);
+    let refusal = number_of(&replicas::deliver(&mut model, bytes, LocalTime(at.0)));
+    ffi::ReplicaResult { refusal, replica: to_replica(&model) }
+}
+
+#[no_mangle]
+unsafe extern "C" fn failstop_step(
+    r: ffi::Replica,
+    at: ffi::LocalTime,
+    output: *mut u8,
+    length: usize,
+) -> ffi::StepResult {
+    let Some(mut model) = from_replica(&r) else {
+        return ffi::StepResult { refusal: Refusal::K.number(), count: 0, replica: r };
+    };
+    steps::before_step(&mut model, &r);
+    let output = from_raw_parts_mut(output, length);
+    let result = steps::step(&mut model, LocalTime(at.0), output);
+    let refusal = number_of(&result);
+    ffi::StepResult { refusal, count: result.unwrap_or(0), replica: to_replica(&model) }
+}
+
+#[no_mangle]
+extern "C" fn failstop_vote(k: u8, n: u8, q: ffi::Query, list: ffi::List) -> ffi::ValueResult {
+    let result = votes::vote(k, n, &q.into(), messages(&list));
+    ffi::ValueResult { refusal: number_of(&result), value: result.map_or(0, u64::from) }
+}
+
+#[no_mangle]
+extern "C" fn failstop_count_halts(
+    k: u8,
+    n: u8,
+    group: u8,
+    process: u8,
+    list: ffi::List,
+) -> ffi::ValueResult {
+    let result = votes::count_halts(k, n, group, process, messages(&list));
+    let value = result.map_or(0, |count| count as u64);
+    ffi::ValueResult { refusal: number_of(&result), value }
+}
+
+/// The messages of a list, of one that is too long as many as there are.
+fn messages(list: &ffi::List) -> Vec<MessageFields> {
+    let count = list.count.min(LIST_LIMIT + 1);
+    list.messages[..count].iter().map(|message| (*message).into()).collect()
+}

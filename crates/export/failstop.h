@@ -1,0 +1,112 @@
+/* The fail-stop store for C: the functions of libexport.a, which `rt staticlib export` writes.
+ *
+ * Each takes any values, reads and writes only the bytes that it is lent, and ends. A `refusal`
+ * is 0 where the call did its work, and otherwise document 01's number; then nothing has changed. */
+#ifndef FAILSTOP_H
+#define FAILSTOP_H
+
+#include <stddef.h>
+#include <stdint.h>
+
+/* A process's clock, and a replica's: unrelated, so a type for each. */
+typedef struct { uint64_t ticks; } failstop_timestamp;
+typedef struct { uint64_t ticks; } failstop_local_time;
+
+typedef struct {
+    uint8_t kind; /* 1 read, 2 write */
+    uint8_t group;
+    uint8_t process;
+    uint16_t variable;
+    failstop_timestamp timestamp;
+    uint32_t value;
+} failstop_request;
+
+typedef struct {
+    uint8_t kind; /* 3 reply, 4 halt */
+    uint8_t group;
+    uint8_t process;
+    uint8_t replica;
+    uint16_t variable;
+    failstop_timestamp timestamp;
+    uint32_t value;
+} failstop_message;
+
+typedef struct {
+    failstop_request request;
+    failstop_local_time arrival;
+} failstop_pending;
+
+/* The first `count` are pending, the others are free. */
+typedef struct {
+    failstop_pending pending[64];
+    size_t count;
+} failstop_queue;
+
+/* By value: what a call gives takes the place of what it got. */
+typedef struct {
+    uint8_t k;
+    uint8_t groups;
+    uint8_t owner;
+    uint8_t number;
+    uint64_t delta;
+    failstop_local_time last;
+    uint32_t variables[256];
+    failstop_queue queue;
+    uint64_t writes;
+} failstop_replica;
+
+/* What a vote is on. */
+typedef struct {
+    uint8_t group;
+    uint8_t process;
+    uint16_t variable;
+    failstop_timestamp timestamp;
+} failstop_query;
+
+/* The first `count` messages; more than 64 are refused. */
+typedef struct {
+    failstop_message messages[65];
+    size_t count;
+} failstop_list;
+
+/* Beside a refusal stand zeros, or the replica as it came; a refused making has that of the least unit. */
+typedef struct { uint8_t refusal; failstop_request request; } failstop_request_result;
+typedef struct { uint8_t refusal; failstop_message message; } failstop_message_result;
+typedef struct { uint8_t refusal; failstop_replica replica; } failstop_replica_result;
+/* `count` messages stand at the start of the output. */
+typedef struct { uint8_t refusal; size_t count; failstop_replica replica; } failstop_step_result;
+typedef struct { uint8_t refusal; uint64_t value; } failstop_value_result;
+
+#ifdef __cplusplus
+extern "C" {
+#endif
+
+/* Records of 24 bytes. */
+failstop_request_result failstop_read_request(
+    uint8_t k, uint8_t n, const uint8_t *bytes, size_t length);
+failstop_message_result failstop_read_message(
+    uint8_t k, uint8_t n, const uint8_t *bytes, size_t length);
+uint8_t failstop_write_request(
+    uint8_t k, uint8_t n, failstop_request r, uint8_t *bytes, size_t length);
+uint8_t failstop_write_message(
+    uint8_t k, uint8_t n, failstop_message m, uint8_t *bytes, size_t length);
+
+/* The replica. */
+failstop_replica_result failstop_make(
+    uint8_t k, uint8_t n, uint8_t owner, uint64_t delta, uint8_t number);
+failstop_replica_result failstop_deliver(
+    failstop_replica r, const uint8_t *bytes, size_t length, failstop_local_time at);
+failstop_step_result failstop_step(
+    failstop_replica r, failstop_local_time at, uint8_t *output, size_t length);
+
+/* What a process makes of the messages that it received. */
+failstop_value_result failstop_vote(
+    uint8_t k, uint8_t n, failstop_query q, failstop_list list);
+failstop_value_result failstop_count_halts(
+    uint8_t k, uint8_t n, uint8_t group, uint8_t process, failstop_list list);
+
+#ifdef __cplusplus
+}
+#endif
+
+#endif
