@@ -4,17 +4,17 @@ use mathlib.Core.Bool.{Bool, cond, _&&_, _||_}
 use mathlib.Core.List.{List, [], _∷_}
 use lib.Dec.{eqb}
 use lib.ListN.{length, take, drop, getD}
+use Rattle.limits.specs.Limits.{entrySize}
 use Rattle.question.specs.Question.{Question, _else_, Answer, given, refused, ask, within}
 use Rattle.record.specs.Layout.{field}
 use Rattle.record.specs.declared.clock.LocalTime.{LocalTime}
 use Rattle.rules.specs.Lists.{every}
 use Rattle.rules.specs.declared.Settings.{Settings}
-use Rattle.rules.specs.Replica.{makeQuestions}
+use Rattle.rules.specs.Replica.{settingsQuestions}
 use Rattle.entry.specs.declared.entry.EntryRead.{EntryRead}
-use Rattle.entry.specs.declared.entry.Setup.{Setup}
 use Rattle.entry.specs.declared.entry.SetupRead.{SetupRead}
 
--- byte 0: what the record is
+-- byte 0: what the record is: 1 setup, 2 delivery, 3 turn
 abbrev pub kindOf : List ℕ → ℕ
 kindOf bytes = getD bytes 0 0
 
@@ -32,17 +32,17 @@ zeroFrom at count bytes = every (λ b. eqb b 0) (take count (drop at bytes))
 abbrev pub settingsIn : List ℕ → Settings
 settingsIn bytes = record { k = getD bytes 16 0; groups = getD bytes 17 0; owner = getD bytes 18 0; delta = field bytes 8 8 }
 
+-- those of the record, then those of the settings: making the unit's replicas asks nothing more
 abbrev pub setupQuestions : List ℕ → List Question
 setupQuestions bytes =
-    (eqb (length bytes) 40 else 18)
+    (eqb (length bytes) entrySize else 18)
     ∷ (eqb (kindOf bytes) 1 else 19)
     ∷ (eqb (replicaOf bytes) 0 else 5)
     ∷ (zeroFrom 2 6 bytes && zeroFrom 19 21 bytes else 20)
-    ∷ []
+    ∷ settingsQuestions (settingsIn bytes)
 
--- the questions of the record, then those of making the unit's replicas
 unfoldable pub readSetup : List ℕ → Answer Settings
-readSetup bytes = ask (setupQuestions bytes) (ask (makeQuestions (settingsIn bytes) 1) (given (settingsIn bytes)))
+readSetup bytes = ask (setupQuestions bytes) (given (settingsIn bytes))
 
 -- ── every later record ──
 
@@ -54,7 +54,7 @@ pub data Entry : Type 0 where
 -- a step has zeros where a delivery has its request
 abbrev pub entryQuestions : ℕ → List ℕ → List Question
 entryQuestions k bytes =
-    (eqb (length bytes) 40 else 18)
+    (eqb (length bytes) entrySize else 18)
     ∷ (within 2 3 (kindOf bytes) else 19)
     ∷ (within 1 (2 * k + 1) (replicaOf bytes) else 5)
     ∷ (zeroFrom 2 6 bytes && (eqb (kindOf bytes) 2 || zeroFrom 16 24 bytes) else 20)
@@ -70,11 +70,8 @@ readEntry k bytes = ask (entryQuestions k bytes) (given (entryIn bytes))
 
 -- ── the answers of the code: document 01's number and values for each case ──
 
-abbrev pub settingsOf : Setup → Settings
-settingsOf s = record { k = s .k; groups = s .groups; owner = s .owner; delta = s .delta }
-
 abbrev pub setupAnswer : SetupRead → Answer Settings
-setupAnswer (SetupRead.Accepted s) = given (settingsOf s)
+setupAnswer (SetupRead.Accepted u) = given u
 setupAnswer (SetupRead.Refused number) = refused number
 
 -- the request of a delivery is in the record

@@ -1,33 +1,26 @@
 // What a 40-byte record of the journal means.
 ghost use mathlib.Core.Path.{_≡_};
 ghost use mathlib.Core.List.{[], _∷_};
-ghost use Prim.Native.Nat.{_+_, _≤_, _<_};
+ghost use Prim.Native.Nat.{_+_, _≤_};
 ghost use lib.Dec.{eqb};
 ghost use lib.ListN.{length};
-ghost use Rattle.question.specs.Question.{_else_, given, worked, ask, outcome};
-ghost use Rattle.record.specs.Layout.{field};
-ghost use Rattle.rules.specs.Replica.{makeQuestions};
-ghost use Rattle.entry.specs.Entry.{zeroFrom, settingsIn, settingsOf, setupQuestions, readSetup, setupAnswer, entryIn, entryQuestions, readEntry, entryAnswer};
+ghost use Rattle.limits.specs.Limits.{entrySize};
+ghost use Rattle.question.specs.Question.{_else_, given, worked, ask, next, outcome};
+ghost use Rattle.entry.specs.Entry.{zeroFrom, settingsIn, setupQuestions, readSetup, setupAnswer, entryIn, entryQuestions, readEntry, entryAnswer};
+use checks::check_settings;
+use limits::ENTRY;
 use question::Outcome;
-use question::ask;
 use question::is_within;
 use record::LocalTime;
+use record::number_at;
+use rules::Settings;
 
 const SETUP: u8 = 1;
 
 const DELIVERY: u8 = 2;
 
-// What a unit is set up with.
-pub struct Setup {
-    pub k: u8,
-    // Document 01's N.
-    pub groups: u8,
-    pub owner: u8,
-    pub delta: u64,
-}
-
 pub enum SetupRead {
-    Accepted(Setup),
+    Accepted(Settings),
     Refused(u8),
 }
 
@@ -52,73 +45,48 @@ fn is_zero_from(bytes: &[u8], at: usize, count: usize) -> bool
     zero
 }
 
-// The number in bytes 8 to 15.
-fn time_in(bytes: &[u8]) -> u64
-    requires { ⌜ length (now bytes) ≡ 40 ⌝ }
-    ensures { λ x. ⌜ x ≡ field (now (bytes .entry)) 8 8 ⌝ }
-{
-    let mut x: u64 = 0;
-    let mut i: usize = 0;
-    while i < 8 {
-        x = x * 256 + wide(bytes[8 + i]);
-        i += 1;
-    }
-    x
-}
-
-fn wide(x: u8) -> u64
-    ensures same { λ r. ⌜ r ≡ x ⌝ }
-    ensures below { λ r. ⌜ r < 256 ⌝ }
-{
-    x as u64
-}
-
 // Question 18.
 fn is_whole(bytes: &[u8]) -> bool
-    ensures { λ b. ⌜ b ≡ eqb (length (now (bytes .entry))) 40 ⌝ }
+    ensures { λ b. ⌜ b ≡ eqb (length (now (bytes .entry))) entrySize ⌝ }
 {
-    bytes.len() == 40
+    bytes.len() == ENTRY
 }
 
 // Questions 19, 5 and 20: a known kind, a replica that is there, zeros where they must be.
 fn check_in_order(known: bool, there: bool, zero: bool) -> Outcome
     ensures { λ o. ⌜ outcome o ≡ ask ((known else 19) ∷ (there else 5) ∷ (zero else 20) ∷ []) (given worked) ⌝ }
 {
-    let q20 = ask(zero, 20, Outcome::Done);
-    let q5 = ask(there, 5, q20);
-    ask(known, 19, q5)
+    Outcome::Done.ask(known, 19).ask(there, 5).ask(zero, 20)
+}
+
+fn settings_in(bytes: &[u8]) -> Settings
+    requires { ⌜ length (now bytes) ≡ entrySize ⌝ }
+    ensures { λ u. ⌜ u ≡ settingsIn (now (bytes .entry)) ⌝ }
+{
+    Settings {
+        k: bytes[16],
+        groups: bytes[17],
+        owner: bytes[18],
+        delta: number_at(bytes, 8, 8),
+    }
 }
 
 // The questions of a setup that is whole.
 fn check_setup(bytes: &[u8]) -> Outcome
-    requires { ⌜ length (now bytes) ≡ 40 ⌝ }
+    requires { ⌜ length (now bytes) ≡ entrySize ⌝ }
     ensures { λ o. ⌜ outcome o ≡ ask (setupQuestions (now (bytes .entry))) (given worked) ⌝ }
 {
     let zero = is_zero_from(bytes, 2, 6) & is_zero_from(bytes, 19, 21);
-    check_in_order(bytes[0] == SETUP, bytes[1] == 0, zero)
+    check_in_order(bytes[0] == SETUP, bytes[1] == 0, zero).then(check_settings(settings_in(bytes)))
 }
 
-// Questions 1 to 4, by making the unit's first replica.
-fn accept_setup(s: Setup) -> SetupRead
-    ensures { λ r. ⌜ setupAnswer r ≡ ask (makeQuestions (settingsOf s) 1) (given (settingsOf s)) ⌝ }
+// The settings, unless something was refused.
+fn unless_refused(o: Outcome, u: Settings) -> SetupRead
+    ensures { λ r. ⌜ setupAnswer r ≡ next (outcome o) (given u) ⌝ }
 {
-    let m = delivery::make(s.k, s.groups, s.owner, s.delta, 1);
-    let made = m.outcome;
-    match made {
-        Outcome::Done => SetupRead::Accepted(s),
+    match o {
+        Outcome::Done => SetupRead::Accepted(u),
         Outcome::Refused(number) => SetupRead::Refused(number),
-    }
-}
-
-fn setup_in(bytes: &[u8]) -> Setup
-    requires { ⌜ length (now bytes) ≡ 40 ⌝ }
-    ensures { λ s. ⌜ settingsOf s ≡ settingsIn (now (bytes .entry)) ⌝ }
-{
-    Setup {
-        k: bytes[16],
-        groups: bytes[17],
-        owner: bytes[18],
-        delta: time_in(bytes),
     }
 }
 
@@ -129,15 +97,12 @@ pub fn read_setup(bytes: &[u8]) -> SetupRead
     if !is_whole(bytes) {
         return SetupRead::Refused(18);
     }
-    match check_setup(bytes) {
-        Outcome::Done => accept_setup(setup_in(bytes)),
-        Outcome::Refused(number) => SetupRead::Refused(number),
-    }
+    unless_refused(check_setup(bytes), settings_in(bytes))
 }
 
 // The questions of a later record that is whole.
 fn check_entry(k: u8, bytes: &[u8]) -> Outcome
-    requires { ⌜ length (now bytes) ≡ 40 ⌝ }
+    requires { ⌜ length (now bytes) ≡ entrySize ⌝ }
     ensures { λ o. ⌜ outcome o ≡ ask (entryQuestions k (now (bytes .entry))) (given worked) ⌝ }
 {
     let kind = bytes[0];
@@ -149,11 +114,11 @@ fn check_entry(k: u8, bytes: &[u8]) -> Outcome
 }
 
 fn entry_in(bytes: &[u8]) -> EntryRead
-    requires { ⌜ length (now bytes) ≡ 40 ⌝ }
+    requires { ⌜ length (now bytes) ≡ entrySize ⌝ }
     ensures { λ r. ⌜ entryAnswer (now (bytes .entry)) r ≡ given (entryIn (now (bytes .entry))) ⌝ }
 {
     let number = bytes[1];
-    let at = LocalTime(time_in(bytes));
+    let at = LocalTime(number_at(bytes, 8, 8));
     if bytes[0] == DELIVERY {
         return EntryRead::Delivery(number, at);
     }

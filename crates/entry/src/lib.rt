@@ -2,7 +2,6 @@
 mod entry;
 
 pub use entry::EntryRead;
-pub use entry::Setup;
 pub use entry::SetupRead;
 pub use entry::read_entry;
 pub use entry::read_setup;

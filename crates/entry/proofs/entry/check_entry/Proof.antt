@@ -2,6 +2,7 @@
 use lib.ListN.{length}
 use native.Mathlib.Omega.{arith}
 use borrow.Author.Tests.{eq-eqb}
+use Rattle.limits.specs.Limits.{entrySize}
 use Rattle.question.specs.Question.{ask}
 use borrow.Author.Needs.{needs}
 use Rattle.entry.proofs.entry.check_entry.Statement.{statement}
@@ -46,7 +47,7 @@ returns c =
     let zeros = c .before .before .before in
     let start = zeros .before .before .before .before .before in
     rw (
-      eq-eqb (length (start .args .bytes .now)) 40 (start .pre),
+      eq-eqb (length (start .args .bytes .now)) entrySize (start .pre),
       c .check-in-order .ensures,
       c .before .is-within2 .ensures,
       c .before .before .is-within .ensures,

@@ -1,5 +1,4 @@
--- Each call puts one question in front of what was asked before: the last call comes first.
-use Rattle.question.specs.Question.{ask}
+use Rattle.question.proofs.Questions.{ask-chain}
 use borrow.Author.Needs.{needs}
 use Rattle.entry.proofs.entry.check_in_order.Statement.{statement}
 use Rattle.entry.proofs.entry.check_in_order.Tie as tie
@@ -14,8 +13,7 @@ ask-requires-3 : tie.Need-ask-requires-3
 ask-requires-3 c κs = search needs
 
 returns : tie.Need-returns
-unfolding ask
-returns c = rw (c .ask3 .ensures, c .before .ask2 .ensures, c .before .before .ask .ensures)
+returns c = rw (c .ask3 .ensures, c .before .ask2 .ensures, c .before .before .ask .ensures) (simp ask-chain)
 
 pub check-in-order-spec : {M : Type 1} → statement M
 check-in-order-spec = tie.close (tie.spec ask-requires ask-requires-2 ask-requires-3 returns)

@@ -2,6 +2,7 @@
 use mathlib.Core.Path.{_≡_, sym, _∙_}
 use lib.ListN.{length}
 use borrow.Author.Tests.{eqb-true, not-true, not-false}
+use Rattle.limits.specs.Limits.{entrySize}
 use Rattle.question.specs.Question.{given, ask, next, outcome}
 use Rattle.question.proofs.Questions.{next-asked}
 use Rattle.entry.specs.Entry.{entryIn, entryQuestions, readEntry}
@@ -9,8 +10,8 @@ use borrow.Author.Needs.{needs}
 use Rattle.entry.proofs.entry.read_entry.Statement.{statement}
 use Rattle.entry.proofs.entry.read_entry.Tie as tie
 
-whole : (c : tie.Else1) → length (c .before .before .before .args .bytes .now) ≡ 40
-whole c = eqb-true _ 40 (sym (c .before .is-whole .ensures) ∙ not-false _ (c .if1 .left))
+whole : (c : tie.Else1) → length (c .before .before .before .args .bytes .now) ≡ entrySize
+whole c = eqb-true _ entrySize (sym (c .before .is-whole .ensures) ∙ not-false _ (c .if1 .left))
 
 -- the record's questions, asked by themselves, decide the answer
 decided : (c : tie.After-check-entry) →

@@ -1,28 +1,17 @@
--- The record's questions are asked by themselves: on a yes, its settings are read and asked.
-use mathlib.Core.Path.{_≡_, sym, ap, _∙_}
+-- The questions are asked by themselves: on a yes, the settings are given.
+use mathlib.Core.Path.{_≡_, sym, _∙_}
 use lib.ListN.{length}
 use borrow.Author.Tests.{eqb-true, not-true, not-false}
-use Rattle.question.specs.Question.{given, ask, next, outcome}
-use Rattle.rules.specs.Replica.{makeQuestions}
+use Rattle.limits.specs.Limits.{entrySize}
+use Rattle.question.specs.Question.{given, ask}
 use Rattle.question.proofs.Questions.{next-asked}
 use Rattle.entry.specs.Entry.{settingsIn, setupQuestions, readSetup}
 use borrow.Author.Needs.{needs}
 use Rattle.entry.proofs.entry.read_setup.Statement.{statement}
 use Rattle.entry.proofs.entry.read_setup.Tie as tie
 
-whole : (c : tie.Else1) → length (c .before .before .before .args .bytes .now) ≡ 40
-whole c = eqb-true _ 40 (sym (c .before .is-whole .ensures) ∙ not-false _ (c .if1 .left))
-
--- the record's questions, asked by themselves, decide the answer
-decided : (c : tie.After-check-setup) →
-    let bytes = c .before .before .before .before .args .bytes .now in
-    let u = settingsIn bytes in
-    next (outcome (c .check-setup .result)) (ask (makeQuestions u 1) (given u)) ≡ readSetup bytes
-unfolding readSetup
-decided c =
-    let bytes = c .before .before .before .before .args .bytes .now in
-    let u = settingsIn bytes in
-    next-asked (setupQuestions bytes) (ask (makeQuestions u 1) (given u)) (outcome (c .check-setup .result)) (c .check-setup .ensures)
+whole : (c : tie.Else1) → length (c .before .before .before .args .bytes .now) ≡ entrySize
+whole c = eqb-true _ entrySize (sym (c .before .is-whole .ensures) ∙ not-false _ (c .if1 .left))
 
 is-whole-requires : tie.Need-is-whole-requires
 is-whole-requires c κs = search needs
@@ -34,26 +23,18 @@ returns c = rw (← c .before .is-whole .ensures, not-true (c .before .is-whole 
 check-setup-requires : tie.Need-check-setup-requires
 check-setup-requires c κs = whole c
 
-enum-told : tie.Need-enum-told
-enum-told c = search needs
+settings-in-requires : tie.Need-settings-in-requires
+settings-in-requires c κs = whole (c .before)
 
-setup-in-requires : tie.Need-setup-in-requires
-setup-in-requires c κs = whole (c .before .before .before)
-
-accept-setup-requires : tie.Need-accept-setup-requires
-accept-setup-requires c κs = search needs
-
-enum-known-number : tie.Need-enum-known-number
-enum-known-number c = search needs
+unless-refused-requires : tie.Need-unless-refused-requires
+unless-refused-requires c κs = search needs
 
 returns-2 : tie.Need-returns-2
+unfolding readSetup
 returns-2 c =
-    c .accept-setup .ensures
-    ∙ ap (λ u. ask (makeQuestions u 1) (given u)) (c .before .setup-in .ensures)
-    ∙ (rw (c .before .before .enum-told .given .1) at (decided (c .before .before .before .before)))
-
-returns-3 : tie.Need-returns-3
-returns-3 c = rw (c .before .number .given .1) at (decided (c .before .before .before))
+    let bytes = c .before .before .before .before .before .before .args .bytes .now in
+    rw (c .unless-refused .ensures, c .before .settings-in .ensures)
+    (next-asked (setupQuestions bytes) (given (settingsIn bytes)) _ (c .before .before .check-setup .ensures))
 
 pub read-setup-spec : {M : Type 1} → statement M
 read-setup-spec =
@@ -62,9 +43,6 @@ read-setup-spec =
     is-whole-requires
     returns
     check-setup-requires
-    enum-told
-    setup-in-requires
-    accept-setup-requires
-    enum-known-number
-    returns-2
-    returns-3)
+    settings-in-requires
+    unless-refused-requires
+    returns-2)

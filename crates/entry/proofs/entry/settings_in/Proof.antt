@@ -1,7 +1,6 @@
--- Each field is what stands at its place.
 use borrow.Author.Needs.{needs}
-use Rattle.entry.proofs.entry.setup_in.Statement.{statement}
-use Rattle.entry.proofs.entry.setup_in.Tie as tie
+use Rattle.entry.proofs.entry.settings_in.Statement.{statement}
+use Rattle.entry.proofs.entry.settings_in.Tie as tie
 
 shared-slice-read-t3 : tie.Need-shared-slice-read-t3
 shared-slice-read-t3 c = search needs
@@ -12,18 +11,18 @@ shared-slice-read-t5 c = search needs
 shared-slice-read-t7 : tie.Need-shared-slice-read-t7
 shared-slice-read-t7 c = search needs
 
-time-in-requires : tie.Need-time-in-requires
-time-in-requires c κs = search needs
+number-at-requires : tie.Need-number-at-requires
+number-at-requires c κs = search needs
 
 returns : tie.Need-returns
-returns c = rw (c .time-in .ensures)
+returns c = rw (c .number-at .ensures .0)
 
-pub setup-in-spec : {M : Type 1} → statement M
-setup-in-spec =
+pub settings-in-spec : {M : Type 1} → statement M
+settings-in-spec =
     tie.close
     (tie.spec
     shared-slice-read-t3
     shared-slice-read-t5
     shared-slice-read-t7
-    time-in-requires
+    number-at-requires
     returns)
