@@ -39,7 +39,7 @@ pub(crate) fn flush(text: &[u8], p: Printed) -> Printed {
 }
 
 // Writes what was collected, where the lines of one more record might not fit behind it: they are at
-// most 67 of at most 132 bytes, as the law `sent-fits` of the library `unit` says.
+// most 67 of at most 132 bytes, as the law `sent-fits` of the library `playback` says.
 pub(crate) fn make_room(text: &[u8], p: Printed) -> Printed {
     if p.used <= 56692 {
         return p;
@@ -58,7 +58,7 @@ pub(crate) fn print_answer(
     p: Printed,
 ) -> Printed {
     let ready = make_room(text, p);
-    let used = unit::put_answer(k, groups, place, answer, sent, text, ready.used);
+    let used = playback::put_answer(k, groups, place, answer, sent, text, ready.used);
     Printed { used, ok: ready.ok }
 }
 

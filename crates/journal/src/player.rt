@@ -1,4 +1,4 @@
-// A journal played from a file: its records are handed one by one to the library `unit`.
+// A journal played from a file: its records are handed one by one to the library `playback`.
 ghost use Prim.Native.Nat.{_<_, _≤_};
 use crate::input::Span;
 use crate::input::next_record;
@@ -70,7 +70,7 @@ fn print_cards(replicas: [Replica; 7], count: usize, text: &mut [u8; 65536], p: 
     let mut i: usize = 0;
     while i < count {
         let r = replicas[i];
-        used = unit::put_card(r, text, used);
+        used = playback::put_card(r, text, used);
         i += 1;
     }
     Printed { used, ok: ready.ok }
@@ -116,7 +116,7 @@ fn play_records(s: Setup, file: i32, held: [u8; 64000], first: Span) -> bool
         let e = entry::read_entry(k, &block[from..to]);
         let i = replica_index(e);
         let r = replicas[i];
-        let p = unit::play_entry(r, e, &block[from..to], &mut sent);
+        let p = playback::play_entry(r, e, &block[from..to], &mut sent);
         let after = p.replica;
         replicas[i] = after;
         let answer = p.answer;
@@ -131,7 +131,7 @@ fn play_records(s: Setup, file: i32, held: [u8; 64000], first: Span) -> bool
 // After a refused first record nothing follows.
 fn print_refusal(number: u8) -> bool {
     let mut text = [0u8; 160];
-    let used = unit::put_refusal(1, number, &mut text, 0);
+    let used = playback::put_refusal(1, number, &mut text, 0);
     let p = flush(&text, Printed { used, ok: true });
     p.ok
 }
