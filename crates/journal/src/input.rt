@@ -2,8 +2,9 @@
 ghost use Prim.Native.Nat.{_≤_};
 ghost use mathlib.Core.Path.{_≡_};
 ghost use lib.ListN.{length};
-
-const STDERR: i32 = 2;
+use crate::output::STDERR;
+use limits::ENTRY;
+use limits::at_most;
 
 // A record stands in the block from `from` to `to`, of `filled` bytes that are held. At the end of
 // the input it is empty, and the last one may be short.
@@ -20,16 +21,10 @@ pub struct Filled {
     pub failed: bool,
 }
 
-fn least(a: usize, b: usize) -> usize
-    ensures { λ r. ⌜ (r ≤ a) × (r ≤ b) ⌝ }
-{
-    if a < b { a } else { b }
-}
-
 fn whole_records(count: usize) -> usize
     ensures { λ r. ⌜ r ≤ count ⌝ }
 {
-    count - count % 40
+    count - count % ENTRY
 }
 
 // Reads until the block is full, the input ends or a read fails. A record that a failure cut is not
@@ -63,7 +58,7 @@ fn span_from(at: usize, filled: usize, failed: bool) -> Span
     requires { ⌜ (at ≤ filled) × (filled ≤ 64000) ⌝ }
     ensures { λ s. ⌜ (s .from ≤ s .to) × ((s .to ≤ s .filled) × (s .filled ≤ 64000)) ⌝ }
 {
-    let to = at + least(filled - at, 40);
+    let to = at + at_most(ENTRY, filled - at);
     Span {
         from: at,
         to,

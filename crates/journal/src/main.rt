@@ -5,12 +5,11 @@ mod input;
 mod output;
 mod player;
 
+use output::STDERR;
 use output::write_name;
 use player::play_journal;
 
 const STDIN: i32 = 0;
-
-const STDERR: i32 = 2;
 
 // The file of a name; negative where it cannot be opened.
 fn open(name: &[u8]) -> i32 {

@@ -1,9 +1,21 @@
 // The text that is printed, collected and written in blocks.
+use limits::MAX_SENT;
+use limits::OUTPUT;
 use replica::StepAnswer;
 
 const STDOUT: i32 = 1;
 
-const STDERR: i32 = 2;
+pub(crate) const STDERR: i32 = 2;
+
+// The bytes of the text that is collected.
+pub(crate) const TEXT: usize = 65536;
+
+// The most that the lines of one record take: 132 bytes for each message that a step may send, as
+// the law `sent-fits` of the library `playback` says.
+const LINES: usize = MAX_SENT * 132;
+
+// So much may be used before them.
+const ROOM: usize = TEXT - LINES;
 
 // How many of the text's first bytes are collected, and whether every write went through.
 pub struct Printed {
@@ -38,10 +50,9 @@ pub(crate) fn flush(text: &[u8], p: Printed) -> Printed {
     }
 }
 
-// Writes what was collected, where the lines of one more record might not fit behind it: they are at
-// most 67 of at most 132 bytes, as the law `sent-fits` of the library `playback` says.
+// Writes what was collected, where the lines of one more record might not fit behind it.
 pub(crate) fn make_room(text: &[u8], p: Printed) -> Printed {
-    if p.used <= 56692 {
+    if p.used <= ROOM {
         return p;
     }
     flush(text, p)
@@ -53,8 +64,8 @@ pub(crate) fn print_answer(
     groups: u8,
     place: u64,
     answer: StepAnswer,
-    sent: &[u8; 1608],
-    text: &mut [u8; 65536],
+    sent: &[u8; OUTPUT],
+    text: &mut [u8; TEXT],
     p: Printed,
 ) -> Printed {
     let ready = make_room(text, p);

@@ -5,22 +5,25 @@ use crate::input::next_record;
 use crate::input::no_record;
 use crate::input::report_unread;
 use crate::output::Printed;
+use crate::output::TEXT;
 use crate::output::flush;
 use crate::output::make_room;
 use crate::output::print_answer;
 use entry::EntryRead;
-use entry::Setup;
 use entry::SetupRead;
+use limits::MAX_K;
+use limits::OUTPUT;
 use replica::Replica;
+use rules::Settings;
 
 // The replicas of a unit; those past its 2k + 1 are never named.
-fn new_replicas(s: Setup) -> [Replica; 7] {
-    let least = replica::make(0, 1, 1, 0, 1);
-    let first = least.replica;
+fn new_replicas(u: Settings) -> [Replica; 7] {
+    let one = replica::make(u, 1);
+    let first = one.replica;
     let mut replicas = [first; 7];
-    let mut at: usize = 0;
+    let mut at: usize = 1;
     while at < 7 {
-        let made = replica::make(s.k, s.groups, s.owner, s.delta, at as u8 + 1);
+        let made = replica::make(u, at as u8 + 1);
         let r = made.replica;
         replicas[at] = r;
         at += 1;
@@ -55,14 +58,14 @@ fn replica_index(e: EntryRead) -> usize
 fn replica_count(k: u8) -> usize
     ensures { λ n. ⌜ n ≤ 7 ⌝ }
 {
-    if 3 < k {
+    if MAX_K < k {
         return 7;
     }
     2 * k as usize + 1
 }
 
 // At the end a line for each replica.
-fn print_cards(replicas: [Replica; 7], count: usize, text: &mut [u8; 65536], p: Printed) -> Printed
+fn print_cards(replicas: [Replica; 7], count: usize, text: &mut [u8; TEXT], p: Printed) -> Printed
     requires { ⌜ count ≤ 7 ⌝ }
 {
     let ready = make_room(text, p);
@@ -78,7 +81,7 @@ fn print_cards(replicas: [Replica; 7], count: usize, text: &mut [u8; 65536], p: 
 
 // The end of a journal. Where the input could not be read to its end, what was collected is
 // written, and no cards.
-fn finish(k: u8, replicas: [Replica; 7], text: &mut [u8; 65536], p: Printed, failed: bool) -> bool {
+fn finish(k: u8, replicas: [Replica; 7], text: &mut [u8; TEXT], p: Printed, failed: bool) -> bool {
     if !p.ok {
         return false;
     }
@@ -93,15 +96,15 @@ fn finish(k: u8, replicas: [Replica; 7], text: &mut [u8; 65536], p: Printed, fai
 }
 
 // The records after the setup, which stands in the block that is held at `first`.
-fn play_records(s: Setup, file: i32, held: [u8; 64000], first: Span) -> bool
+fn play_records(u: Settings, file: i32, held: [u8; 64000], first: Span) -> bool
     requires { ⌜ first .filled ≤ 64000 ⌝ }
 {
-    let k = s.k;
-    let groups = s.groups;
-    let mut replicas = new_replicas(s);
+    let k = u.k;
+    let groups = u.groups;
+    let mut replicas = new_replicas(u);
     let mut block = held;
-    let mut sent = [0u8; 1608];
-    let mut text = [0u8; 65536];
+    let mut sent = [0u8; OUTPUT];
+    let mut text = [0u8; TEXT];
     let mut printed = Printed { used: 0, ok: true };
     let mut span = first;
     let mut place: u64 = 1;
@@ -149,7 +152,7 @@ pub(crate) fn play_journal(file: i32) -> bool {
         return !span.failed;
     }
     match entry::read_setup(&block[from..to]) {
-        SetupRead::Accepted(s) => play_records(s, file, block, span),
+        SetupRead::Accepted(u) => play_records(u, file, block, span),
         SetupRead::Refused(number) => print_refusal(number),
     }
 }

@@ -6,10 +6,10 @@ use Rattle.journal.proofs.player.new_replicas.Statement.{statement}
 use Rattle.journal.proofs.player.new_replicas.Tie as tie
 
 abbrev Inv-loop : tie.InvT-loop
-Inv-loop s replicas₀ at₀ replicas at = (at ≤ 7) × (length replicas ≡ 7)
+Inv-loop u replicas₀ at₀ replicas at = (at ≤ 7) × (length replicas ≡ 7)
 
 abbrev μ-loop : tie.MeasureT-loop
-μ-loop s replicas₀ at₀ replicas at = 7 - at
+μ-loop u replicas₀ at₀ replicas at = 7 - at
 
 make-requires : tie.Need-make-requires Inv-loop μ-loop
 make-requires c κs = search needs
