@@ -103,6 +103,16 @@ pub fn to_list(messages: &[MessageFields], rest: MessageFields) -> ffi::List {
     list
 }
 
+/// What the model's replica was set up with, as the C struct.
+pub fn to_settings(model: &Replica) -> ffi::Settings {
+    ffi::Settings {
+        k: model.settings.k(),
+        groups: model.settings.groups(),
+        owner: model.owner,
+        delta: model.delta,
+    }
+}
+
 /// The C struct of a replica; the free places hold zeros.
 pub fn to_replica(model: &Replica) -> ffi::Replica {
     let mut pending = [ffi::Pending::default(); PENDING_LIMIT];
@@ -110,11 +120,8 @@ pub fn to_replica(model: &Replica) -> ffi::Replica {
         *place = waiting.into();
     }
     ffi::Replica {
-        k: model.settings.k(),
-        groups: model.settings.groups(),
-        owner: model.owner,
+        settings: to_settings(model),
         number: model.number,
-        delta: model.delta,
         last: ffi::LocalTime(model.last.0),
         variables: model.variables,
         queue: ffi::Queue { pending, count: model.pending.len() },
@@ -124,10 +131,9 @@ pub fn to_replica(model: &Replica) -> ffi::Replica {
 
 /// The model's replica, if the struct is one that the calls can leave.
 pub fn from_replica(replica: &ffi::Replica) -> Option<Replica> {
-    let settings = Settings::new(replica.k, replica.groups).ok()?;
-    let mut model =
-        Replica::make(replica.k, replica.groups, replica.owner, replica.delta, replica.number)
-            .ok()?;
+    let u = replica.settings;
+    let settings = Settings::new(u.k, u.groups).ok()?;
+    let mut model = Replica::make(u.k, u.groups, u.owner, u.delta, replica.number).ok()?;
     for waiting in replica.queue.pending.get(..replica.queue.count)? {
         let request = settings.check_request(&waiting.request.into()).ok()?;
         model.pending.push(Pending { request, arrival: LocalTime(waiting.arrival.0) });

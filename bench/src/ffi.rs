@@ -51,14 +51,21 @@ pub struct Queue {
     pub count: usize,
 }
 
+/// What a unit is set up with.
 #[repr(C)]
-#[derive(Clone, Copy, Debug)]
-pub struct Replica {
+#[derive(Clone, Copy, Debug, PartialEq, Eq)]
+pub struct Settings {
     pub k: u8,
     pub groups: u8,
     pub owner: u8,
-    pub number: u8,
     pub delta: u64,
+}
+
+#[repr(C)]
+#[derive(Clone, Copy, Debug)]
+pub struct Replica {
+    pub settings: Settings,
+    pub number: u8,
     pub last: LocalTime,
     pub variables: [u32; 256],
     pub queue: Queue,
@@ -123,7 +130,7 @@ extern "C" {
     fn failstop_read_message(k: u8, n: u8, bytes: *const u8, length: usize) -> MessageResult;
     fn failstop_write_request(k: u8, n: u8, r: Request, bytes: *mut u8, length: usize) -> u8;
     fn failstop_write_message(k: u8, n: u8, m: Message, bytes: *mut u8, length: usize) -> u8;
-    fn failstop_make(k: u8, n: u8, owner: u8, delta: u64, number: u8) -> ReplicaResult;
+    fn failstop_make(u: Settings, number: u8) -> ReplicaResult;
     fn failstop_deliver(
         r: Replica,
         bytes: *const u8,
@@ -159,8 +166,8 @@ pub fn write_message(k: u8, n: u8, message: Message, destination: &mut [u8]) -> 
 }
 
 #[inline]
-pub fn make(k: u8, n: u8, owner: u8, delta: u64, number: u8) -> ReplicaResult {
-    unsafe { failstop_make(k, n, owner, delta, number) }
+pub fn make(u: Settings, number: u8) -> ReplicaResult {
+    unsafe { failstop_make(u, number) }
 }
 
 #[inline]

@@ -15,6 +15,7 @@ fn header_is_c_with_the_same_structs() {
         ("failstop_message", size_of::<ffi::Message>()),
         ("failstop_pending", size_of::<ffi::Pending>()),
         ("failstop_queue", size_of::<ffi::Queue>()),
+        ("failstop_settings", size_of::<ffi::Settings>()),
         ("failstop_replica", size_of::<ffi::Replica>()),
         ("failstop_query", size_of::<ffi::Query>()),
         ("failstop_list", size_of::<ffi::List>()),

@@ -42,13 +42,18 @@ typedef struct {
     size_t count;
 } failstop_queue;
 
-/* By value: what a call gives takes the place of what it got. */
+/* What a unit is set up with; `groups` is document 01's N. */
 typedef struct {
     uint8_t k;
     uint8_t groups;
     uint8_t owner;
-    uint8_t number;
     uint64_t delta;
+} failstop_settings;
+
+/* By value: what a call gives takes the place of what it got. */
+typedef struct {
+    failstop_settings settings;
+    uint8_t number;
     failstop_local_time last;
     uint32_t variables[256];
     failstop_queue queue;
@@ -92,8 +97,7 @@ uint8_t failstop_write_message(
     uint8_t k, uint8_t n, failstop_message m, uint8_t *bytes, size_t length);
 
 /* The replica. */
-failstop_replica_result failstop_make(
-    uint8_t k, uint8_t n, uint8_t owner, uint64_t delta, uint8_t number);
+failstop_replica_result failstop_make(failstop_settings u, uint8_t number);
 failstop_replica_result failstop_deliver(
     failstop_replica r, const uint8_t *bytes, size_t length, failstop_local_time at);
 failstop_step_result failstop_step(

@@ -184,7 +184,7 @@ fn delivery(table: &mut Table) {
 }
 
 fn fill_verified(bytes: &[[u8; RECORD_SIZE]]) {
-    let mut replica = ffi::make(K, GROUPS, OWNER, DELTA, 1).replica;
+    let mut replica = ffi::make(SETTINGS, 1).replica;
     for request in bytes {
         let found = ffi::deliver(replica, black_box(request), ffi::LocalTime(100));
         replica = found.replica;

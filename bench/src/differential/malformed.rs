@@ -19,7 +19,7 @@ pub fn run(random: &mut Random, tally: &mut Tally) -> Outcome {
     let mut replica = some_replica(random);
     for _ in 0..4 {
         tally.events(Event::MalformedCall, 2);
-        let bytes = some_request(replica.k, replica.groups, random).encode();
+        let bytes = some_request(replica.settings.k, replica.settings.groups, random).encode();
         let at = some_time(&replica, random);
         replica = ffi::deliver(replica, &bytes, ffi::LocalTime(at)).replica;
         let mut lent = Lent::new(some_room(random), random);
@@ -61,11 +61,11 @@ fn some_replica(random: &mut Random) -> ffi::Replica {
 fn spoil(replica: &mut ffi::Replica, random: &mut Random) {
     let edge = random.pick(&[0, 1, 64, 65, 255, 1 << 62, u64::MAX]);
     match random.below(10) {
-        0 => replica.k = random.byte(),
-        1 => replica.groups = random.byte(),
-        2 => replica.owner = random.byte(),
+        0 => replica.settings.k = random.byte(),
+        1 => replica.settings.groups = random.byte(),
+        2 => replica.settings.owner = random.byte(),
         3 => replica.number = random.byte(),
-        4 => replica.delta = edge,
+        4 => replica.settings.delta = edge,
         5 => replica.last.0 = edge,
         6 => replica.queue.count = edge as usize,
         7 => replica.writes = edge,

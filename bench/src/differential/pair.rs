@@ -34,7 +34,8 @@ impl Making {
     }
 
     fn other(self) -> ffi::ReplicaResult {
-        ffi::make(self.k, self.groups, self.owner, self.delta, self.number)
+        let Making { k, groups, owner, delta, number } = self;
+        ffi::make(ffi::Settings { k, groups, owner, delta }, number)
     }
 }
 
@@ -254,19 +255,8 @@ fn note_messages(output: &[u8], tally: &mut Tally) {
 
 /// Compares all that the interface settles of a replica.
 fn same_replica(model: &Replica, other: &ffi::Replica, input: &dyn Fn() -> String) -> Outcome {
-    let settings = |k, groups, owner, number, delta| (k, groups, owner, number, delta);
-    same(
-        "k, groups, owner, number and delta",
-        settings(
-            model.settings.k(),
-            model.settings.groups(),
-            model.owner,
-            model.number,
-            model.delta,
-        ),
-        settings(other.k, other.groups, other.owner, other.number, other.delta),
-        input,
-    )?;
+    same("settings", to_settings(model), other.settings, input)?;
+    same("number", model.number, other.number, input)?;
     same("last local time", model.last.0, other.last.0, input)?;
     same("performed writes", model.writes, other.writes, input)?;
     same_lists("variable", &model.variables, &other.variables, input)?;

@@ -60,8 +60,8 @@ unsafe extern "C" fn failstop_write_message(
 }
 
 #[no_mangle]
-extern "C" fn failstop_make(k: u8, n: u8, owner: u8, delta: u64, number: u8) -> ffi::ReplicaResult {
-    let result = replicas::make(k, n, owner, delta, number);
+extern "C" fn failstop_make(u: ffi::Settings, number: u8) -> ffi::ReplicaResult {
+    let result = replicas::make(u.k, u.groups, u.owner, u.delta, number);
     let refusal = number_of(&result);
     let replica = result.unwrap_or_else(|_| Replica::make(0, 1, 1, 0, 1).expect("allowed"));
     ffi::ReplicaResult { refusal, replica: to_replica(&replica) }

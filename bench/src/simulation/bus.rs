@@ -154,7 +154,8 @@ pub fn play(
 ) -> Result<Option<Run>, String> {
     let cast = plan.cast;
     let settings = Settings::new(cast.k, cast.groups).expect("allowed settings");
-    let made = ffi::make(cast.k, cast.groups, cast.owner, plan.delta, number);
+    let (k, groups, owner, delta) = (cast.k, cast.groups, cast.owner, plan.delta);
+    let made = ffi::make(ffi::Settings { k, groups, owner, delta }, number);
     expect("make", made.refusal == 0, made.refusal)?;
     let run = Run { number, replica: made.replica, accepted: Vec::new(), messages: Vec::new() };
     let mut player = Player { settings, run, counts };

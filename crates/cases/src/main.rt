@@ -8,6 +8,7 @@ mod show;
 mod votes;
 
 use replica::Replica;
+use rules::Settings;
 use script::Name;
 use script::Scan;
 use votes::Heard;
@@ -70,7 +71,13 @@ fn run_line(line: &[u8], kept: Kept) -> Kept {
 fn main() {
     let mut text = [0u8; 131072];
     let filled = io::read_full(0, &mut text);
-    let made = replica::make(0, 1, 1, 0, 1);
+    let least = Settings {
+        k: 0,
+        groups: 1,
+        owner: 1,
+        delta: 0,
+    };
+    let made = replica::make(least, 1);
     let replica = made.replica;
     let heard = votes::none();
     let mut kept = Kept { replica, heard };

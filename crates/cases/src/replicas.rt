@@ -3,11 +3,13 @@
 // After each the variables 0 and 4, the writes, the pending requests and the last local time are shown.
 use crate::records::bytes_from;
 use crate::script::Scan;
+use limits::RECORD;
 use question::Outcome;
 use record::LocalTime;
 use record::MessageRead;
 use replica::Replica;
 use replica::StepAnswer;
+use rules::Settings;
 
 fn show_replica(r: Replica) {
     io::write_all(1, b" ;");
@@ -18,8 +20,18 @@ fn show_replica(r: Replica) {
     crate::show::number(r.last.0);
 }
 
+// The first four numbers: k, N, owner, delta.
+fn settings_from(s: Scan) -> Settings {
+    Settings {
+        k: s.byte(0),
+        groups: s.byte(1),
+        owner: s.byte(2),
+        delta: s.number(3),
+    }
+}
+
 pub(crate) fn make(s: Scan, old: Replica) -> Replica {
-    let m = replica::make(s.byte(0), s.byte(1), s.byte(2), s.number(3), s.byte(4));
+    let m = replica::make(settings_from(s), s.byte(4));
     let outcome = m.outcome;
     let made = m.replica;
     crate::show::outcome(outcome);
@@ -32,10 +44,7 @@ pub(crate) fn make(s: Scan, old: Replica) -> Replica {
 // A replica that no call makes: k, N, owner, delta, number, the count and the last local time set.
 pub(crate) fn spoil(s: Scan, old: Replica) -> Replica {
     let mut r = old;
-    r.k = s.byte(0);
-    r.groups = s.byte(1);
-    r.owner = s.byte(2);
-    r.delta = s.number(3);
+    r.settings = settings_from(s);
     r.number = s.byte(4);
     let mut queue = old.queue;
     queue.count = s.number(5) as usize;
@@ -68,7 +77,7 @@ pub(crate) fn deliver(s: Scan, r: Replica) -> Replica {
 // The message of a record of the output.
 fn show_record(r: Replica, b: &[u8]) {
     io::write_all(1, b" :");
-    match record::read_message(r.k, r.groups, b) {
+    match record::read_message(r.settings.k, r.settings.groups, b) {
         MessageRead::Accepted(m) => crate::show::message(m),
         MessageRead::Refused(_) => {}
     }
@@ -78,13 +87,13 @@ fn show_records(r: Replica, output: &[u8], count: usize) {
     let mut at: usize = 0;
     let mut i: usize = 0;
     while i < count {
-        if output.len() < 24 {
+        if output.len() < RECORD {
             return;
         }
-        if output.len() - 24 < at {
+        if output.len() - RECORD < at {
             return;
         }
-        let end = at + 24;
+        let end = at + RECORD;
         show_record(r, &output[at..end]);
         at = end;
         i += 1;

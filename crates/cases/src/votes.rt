@@ -13,15 +13,7 @@ pub struct Heard {
 }
 
 pub(crate) fn none() -> Heard {
-    let blank = Message {
-        kind: 0,
-        group: 0,
-        process: 0,
-        replica: 0,
-        variable: 0,
-        timestamp: Timestamp(0),
-        value: 0,
-    };
+    let blank = Message::blank();
     let list = [blank; 65];
     Heard { list, count: 0 }
 }

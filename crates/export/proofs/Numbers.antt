@@ -7,13 +7,14 @@ use native.Mathlib.Omega.{arith}
 use lib.Dec.{leb, ltb}
 use borrow.Author.Tests.{ltb-true}
 use Rattle.question.specs.Question.{Question, _else_, Answer, given, refused, isGiven, ask, bind, unitQuestions}
-use Rattle.record.specs.Record.{requestQuestions, messageQuestions, readRequest, readMessage, writeRequest, writeMessage, readWith, writeWith}
+use Rattle.record.specs.Record.{fieldQuestions, readFields, writeFields, readRequest, readMessage, writeRequest, writeMessage}
 use Rattle.record.specs.declared.clock.LocalTime.{LocalTime}
+use Rattle.record.specs.declared.kind.Family.the-variants.{Requests, Messages}
 use Rattle.record.specs.declared.message.Message.{Message}
 use Rattle.record.specs.declared.request.Request.{Request}
 use Rattle.rules.specs.declared.Settings.{Settings}
 use Rattle.rules.specs.Replica.{State, make, admit, deliver, step}
-use Rattle.rules.specs.Vote.{counts, support, elect, vote, haltCount}
+use Rattle.rules.specs.Vote.{countsFor, support, elect, vote, haltCount}
 use Rattle.rules.specs.declared.Query.{Query}
 use Rattle.export.specs.Result.{refusalOf}
 
@@ -45,37 +46,37 @@ cond-told false one other told told′ = told′
 
 module _ (k n : ℕ) (bytes : List ℕ) where
   pub read-request-told : Told (readRequest k n bytes)
-  unfolding readWith unitQuestions requestQuestions
-  read-request-told = ask-told _ _ refl (ask-told _ _ refl (ask-told _ _ refl (λ e. refl)))
+  unfolding readFields unitQuestions fieldQuestions
+  read-request-told = bind-told (readFields Requests k n bytes) _ (ask-told _ _ refl (λ e. refl)) (λ f e. refl)
 
   pub read-message-told : Told (readMessage k n bytes)
-  unfolding readWith unitQuestions messageQuestions
-  read-message-told = ask-told _ _ refl (ask-told _ _ refl (ask-told _ _ refl (λ e. refl)))
+  unfolding readFields unitQuestions fieldQuestions
+  read-message-told = bind-told (readFields Messages k n bytes) _ (ask-told _ _ refl (λ e. refl)) (λ f e. refl)
 
   pub write-request-told : (r : Request) → Told (writeRequest k n r bytes)
-  unfolding writeWith unitQuestions requestQuestions
-  write-request-told r = ask-told _ _ refl (ask-told _ _ refl (ask-told _ _ refl (λ e. refl)))
+  unfolding writeFields unitQuestions fieldQuestions
+  write-request-told r = ask-told _ _ refl (λ e. refl)
 
   pub write-message-told : (m : Message) → Told (writeMessage k n m bytes)
-  unfolding writeWith unitQuestions messageQuestions
-  write-message-told m = ask-told _ _ refl (ask-told _ _ refl (ask-told _ _ refl (λ e. refl)))
+  unfolding writeFields unitQuestions fieldQuestions
+  write-message-told m = ask-told _ _ refl (λ e. refl)
 
 -- ── the replica ──
 
 pub make-told : (u : Settings) (number : ℕ) → Told (make u number)
-unfolding make
+unfolding make unitQuestions
 make-told u number = ask-told _ _ refl (λ e. refl)
 
 pub deliver-told : (s : State) (bytes : List ℕ) (at : LocalTime) → Told (deliver s bytes at)
 unfolding deliver admit
 deliver-told s bytes at =
     bind-told (admit s bytes at) _
-    (bind-told (readRequest (s .settings .k) (s .settings .groups) bytes) _ (read-request-told _ _ bytes) (λ r. ask-told _ _ refl (ask-told _ _ refl (λ e. refl))))
+    (bind-told (readRequest (s .settings .k) (s .settings .groups) bytes) _ (read-request-told _ _ bytes) (λ r. ask-told _ _ refl (λ e. refl)))
     (λ r e. refl)
 
 pub step-told : (s : State) (at : LocalTime) (output : List ℕ) → Told (step s at output)
 unfolding step
-step-told s at output = ask-told _ _ refl (ask-told _ _ refl (λ e. refl))
+step-told s at output = ask-told _ _ refl (λ e. refl)
 
 -- ── the vote and the halt count ──
 
@@ -86,8 +87,8 @@ elect-told k test list (m ∷ candidates) = cond-told (test m && leb (k + 1) (su
 
 pub vote-told : (k n : ℕ) (q : Query) (list : List Message) → Told (vote k n q list)
 unfolding vote unitQuestions
-vote-told k n q list = ask-told _ _ refl (ask-told _ _ refl (elect-told k (counts k n q) list list))
+vote-told k n q list = ask-told _ _ refl (elect-told k (countsFor k n q) list list)
 
 pub halt-count-told : (k n group process : ℕ) (list : List Message) → Told (haltCount k n group process list)
 unfolding haltCount unitQuestions
-halt-count-told k n group process list = ask-told _ _ refl (ask-told _ _ refl (λ e. refl))
+halt-count-told k n group process list = ask-told _ _ refl (λ e. refl)

@@ -3,7 +3,7 @@ use Prim.Native.Nat.{ℕ}
 use Rattle.question.specs.Question.{Answer, given, refused, after}
 use Rattle.record.specs.declared.message.Message.{Message}
 use Rattle.record.specs.declared.request.Request.{Request}
-use Rattle.batch.specs.State.{blankRequest}
+use Rattle.record.specs.Record.{blankRequest, blankMessage}
 use Rattle.export.specs.declared.records.MessageResult.{MessageResult}
 use Rattle.export.specs.declared.records.RequestResult.{RequestResult}
 use Rattle.export.specs.declared.votes.ValueResult.{ValueResult}
@@ -13,16 +13,13 @@ abbrev pub refusalOf : {A : Type 0} → Answer A → ℕ
 refusalOf (given a) = 0
 refusalOf (refused number) = number
 
-abbrev pub noMessage : Message
-noMessage = record { kind = 0; group = 0; process = 0; replica = 0; variable = 0; timestamp = record { 0 = 0 }; value = 0 }
-
 -- ── beside a refusal stands zero ──
 
 abbrev pub requestResult : Answer Request → RequestResult
 requestResult answer = record { refusal = refusalOf answer; request = after blankRequest answer }
 
 abbrev pub messageResult : Answer Message → MessageResult
-messageResult answer = record { refusal = refusalOf answer; message = after noMessage answer }
+messageResult answer = record { refusal = refusalOf answer; message = after blankMessage answer }
 
 abbrev pub valueResult : Answer ℕ → ValueResult
 valueResult answer = record { refusal = refusalOf answer; value = after 0 answer }

@@ -2,14 +2,12 @@
 ghost use mathlib.Core.Path.{_≡_};
 ghost use Rattle.question.specs.Question.{given, after, verdict, outcome};
 ghost use Rattle.record.specs.Record.{requestAnswer, messageAnswer, readRequest, readMessage, writeRequest, writeMessage};
-ghost use Rattle.export.specs.Result.{refusalOf, noMessage, requestResult, messageResult};
-use batch::blank_request;
+ghost use Rattle.export.specs.Result.{refusalOf, requestResult, messageResult};
 use question::Outcome;
 use record::Message;
 use record::MessageRead;
 use record::Request;
 use record::RequestRead;
-use record::Timestamp;
 
 #[repr(C)]
 pub struct RequestResult {
@@ -29,20 +27,6 @@ pub(crate) fn refusal_of(o: Outcome) -> u8
     match o {
         Outcome::Done => 0,
         Outcome::Refused(number) => number,
-    }
-}
-
-fn no_message() -> Message
-    ensures { λ r. ⌜ r ≡ noMessage ⌝ }
-{
-    Message {
-        kind: 0,
-        group: 0,
-        process: 0,
-        replica: 0,
-        variable: 0,
-        timestamp: Timestamp(0),
-        value: 0,
     }
 }
 
@@ -72,7 +56,7 @@ fn request_result(read: RequestRead) -> RequestResult
         RequestRead::Accepted(request) => accepted_request(request),
         RequestRead::Refused(refusal) => RequestResult {
             refusal,
-            request: blank_request(),
+            request: Request::blank(),
         },
     }
 }
@@ -87,7 +71,7 @@ fn message_result(read: MessageRead) -> MessageResult
         },
         MessageRead::Refused(refusal) => MessageResult {
             refusal,
-            message: no_message(),
+            message: Message::blank(),
         },
     }
 }

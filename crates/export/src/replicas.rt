@@ -1,9 +1,9 @@
 // Making, delivery and step. A refused call gives the replica back as it was lent.
 ghost use mathlib.Core.Path.{_≡_};
 ghost use Prim.Native.Nat.{ℕ};
-ghost use Rattle.question.specs.Question.{given, refused, after, bind, verdict};
+ghost use Rattle.question.specs.Question.{refused, mapAnswer, after, verdict};
 ghost use Rattle.rules.specs.Replica.{make, deliver, step};
-ghost use Rattle.batch.specs.State.{settings, stateOf};
+ghost use Rattle.batch.specs.State.{stateOf};
 ghost use Rattle.delivery.specs.Made.{leastState};
 ghost use Rattle.replica.specs.Answer.{stepAnswer};
 ghost use Rattle.export.specs.Result.{refusalOf};
@@ -11,6 +11,7 @@ use crate::records::refusal_of;
 use record::LocalTime;
 use replica::Replica;
 use replica::StepAnswer;
+use rules::Settings;
 
 #[repr(C)]
 pub struct ReplicaResult {
@@ -45,11 +46,11 @@ fn sent(a: StepAnswer) -> usize
 }
 
 #[no_mangle]
-pub extern "C" fn failstop_make(k: u8, n: u8, owner: u8, delta: u64, number: u8) -> ReplicaResult
-    ensures answer { λ m. ⌜ m .refusal ≡ refusalOf (verdict (make (settings k n owner delta) number)) ⌝ }
-    ensures state { λ m. ⌜ stateOf (m .replica) ≡ after leastState (make (settings k n owner delta) number) ⌝ }
+pub extern "C" fn failstop_make(u: Settings, number: u8) -> ReplicaResult
+    ensures answer { λ m. ⌜ m .refusal ≡ refusalOf (verdict (make u number)) ⌝ }
+    ensures state { λ m. ⌜ stateOf (m .replica) ≡ after leastState (make u number) ⌝ }
 {
-    let made = replica::make(k, n, owner, delta, number);
+    let made = replica::make(u, number);
     let outcome = made.outcome;
     let replica = made.replica;
     ReplicaResult {
@@ -75,10 +76,10 @@ pub extern "C" fn failstop_deliver(r: Replica, bytes: &[u8], at: LocalTime) -> R
 
 #[no_mangle]
 pub extern "C" fn failstop_step(r: Replica, at: LocalTime, output: &mut [u8]) -> StepResult
-    ensures answer { λ s. ⌜ s .refusal ≡ refusalOf (bind (step (stateOf r) at (now (output .entry))) (λ d. given (d .count))) ⌝ }
-    ensures count { λ s. ⌜ s .count ≡ after 0 (bind (step (stateOf r) at (now (output .entry))) (λ d. given (d .count))) ⌝ }
-    ensures state { λ s. ⌜ stateOf (s .replica) ≡ after (stateOf r) (bind (step (stateOf r) at (now (output .entry))) (λ d. given (d .state))) ⌝ }
-    ensures output { λ s. ⌜ now (output .exit) ≡ after (now (output .entry)) (bind (step (stateOf r) at (now (output .entry))) (λ d. given (d .output))) ⌝ }
+    ensures answer { λ s. ⌜ s .refusal ≡ refusalOf (mapAnswer (λ d. d .count) (step (stateOf r) at (now (output .entry)))) ⌝ }
+    ensures count { λ s. ⌜ s .count ≡ after 0 (mapAnswer (λ d. d .count) (step (stateOf r) at (now (output .entry)))) ⌝ }
+    ensures state { λ s. ⌜ stateOf (s .replica) ≡ after (stateOf r) (mapAnswer (λ d. d .state) (step (stateOf r) at (now (output .entry)))) ⌝ }
+    ensures output { λ s. ⌜ now (output .exit) ≡ after (now (output .entry)) (mapAnswer (λ d. d .output) (step (stateOf r) at (now (output .entry)))) ⌝ }
     ensures kept { λ s. ⌜ ((q : ℕ) → step (stateOf r) at (now (output .entry)) ≡ refused q → s .replica ≡ r) ⌝ }
 {
     let stepped = replica::step(r, at, output);

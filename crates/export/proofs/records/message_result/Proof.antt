@@ -9,15 +9,15 @@ enum-known-read c = search needs
 enum-known-read-2 : tie.Need-enum-known-read-2
 enum-known-read-2 c = search needs
 
-no-message-requires : tie.Need-no-message-requires
-no-message-requires c κs = search needs
+blank-requires : tie.Need-blank-requires
+blank-requires c κs = search needs
 
 returns : tie.Need-returns
 returns c = rw (c .before .read .given .1) refl
 
 returns-2 : tie.Need-returns-2
-returns-2 c = rw (c .no-message .ensures, c .before .before .read2 .given .1) refl
+returns-2 c = rw (c .blank .ensures, c .before .before .read2 .given .1) refl
 
 pub message-result-spec : {M : Type 1} → statement M
 message-result-spec =
-    tie.close (tie.spec enum-known-read enum-known-read-2 no-message-requires returns returns-2)
+    tie.close (tie.spec enum-known-read enum-known-read-2 blank-requires returns returns-2)

@@ -12,15 +12,15 @@ accepted-request-requires c κs = search needs
 enum-known-read-2 : tie.Need-enum-known-read-2
 enum-known-read-2 c = search needs
 
-blank-request-requires : tie.Need-blank-request-requires
-blank-request-requires c κs = search needs
+blank-requires : tie.Need-blank-requires
+blank-requires c κs = search needs
 
 returns : tie.Need-returns
 returns c = rw (c .accepted-request .ensures, c .before .before .read .given .1) refl
 
 returns-2 : tie.Need-returns-2
-returns-2 c = rw (c .blank-request .ensures, c .before .before .read2 .given .1) refl
+returns-2 c = rw (c .blank .ensures, c .before .before .read2 .given .1) refl
 
 pub request-result-spec : {M : Type 1} → statement M
 request-result-spec =
-    tie.close (tie.spec enum-known-read accepted-request-requires enum-known-read-2 blank-request-requires returns returns-2)
+    tie.close (tie.spec enum-known-read accepted-request-requires enum-known-read-2 blank-requires returns returns-2)

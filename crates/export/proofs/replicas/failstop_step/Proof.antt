@@ -1,5 +1,5 @@
 use mathlib.Core.Path.{ap, _∙_}
-use Rattle.question.specs.Question.{given, bind}
+use Rattle.question.specs.Question.{mapAnswer}
 use borrow.Author.Needs.{needs}
 use Rattle.export.proofs.replicas.failstop_step.Statement.{statement}
 use Rattle.export.proofs.replicas.failstop_step.Tie as tie
@@ -22,7 +22,7 @@ returns c =
       rw (c .before .refusal-of-step .ensures, told .0),
       (
         rw (c .sent .ensures, told .0),
-        (told .1 .0, (told .1 .1 .0, λ q e. told .1 .1 .1 q (told .0 ∙ ap (λ a. bind a (λ d. given (d .count))) e))),
+        (told .1 .0, (told .1 .1 .0, λ q e. told .1 .1 .1 q (told .0 ∙ ap (λ a. mapAnswer (λ d. d .count) a) e))),
       ),
     )
 
