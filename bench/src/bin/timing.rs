@@ -37,6 +37,9 @@ const K: u8 = 1;
 const GROUPS: u8 = 2;
 const OWNER: u8 = 1;
 const DELTA: u64 = 5;
+
+const SETTINGS: ffi::Settings =
+    ffi::Settings { k: K, groups: GROUPS, owner: OWNER, delta: DELTA };
 /// What votes are on.
 const QUERY: Query = Query { group: OWNER, process: 1, variable: 4, timestamp: Timestamp(10) };
 

@@ -7,6 +7,7 @@ use super::lent::Lent;
 use super::records::some_request;
 use super::tally::{Call, Event, Tally};
 use super::{same, same_lists, Outcome};
+use crate::convert::to_settings;
 use crate::difference::Difference;
 use crate::ffi;
 use crate::model::record::{Request, REPLY};
