@@ -12,17 +12,18 @@ use crate::output::print_answer;
 use entry::EntryRead;
 use entry::SetupRead;
 use limits::MAX_K;
+use limits::MAX_REPLICAS;
 use limits::OUTPUT;
 use replica::Replica;
 use rules::Settings;
 
 // The replicas of a unit; those past its 2k + 1 are never named.
-fn new_replicas(u: Settings) -> [Replica; 7] {
+fn new_replicas(u: Settings) -> [Replica; MAX_REPLICAS] {
     let one = replica::make(u, 1);
     let first = one.replica;
-    let mut replicas = [first; 7];
+    let mut replicas = [first; MAX_REPLICAS];
     let mut at: usize = 1;
-    while at < 7 {
+    while at < MAX_REPLICAS {
         let made = replica::make(u, at as u8 + 1);
         let r = made.replica;
         replicas[at] = r;
@@ -59,13 +60,18 @@ fn replica_count(k: u8) -> usize
     ensures { λ n. ⌜ n ≤ 7 ⌝ }
 {
     if MAX_K < k {
-        return 7;
+        return MAX_REPLICAS;
     }
     2 * k as usize + 1
 }
 
 // At the end a line for each replica.
-fn print_cards(replicas: [Replica; 7], count: usize, text: &mut [u8; TEXT], p: Printed) -> Printed
+fn print_cards(
+    replicas: [Replica; MAX_REPLICAS],
+    count: usize,
+    text: &mut [u8; TEXT],
+    p: Printed,
+) -> Printed
     requires { ⌜ count ≤ 7 ⌝ }
 {
     let ready = make_room(text, p);
@@ -81,7 +87,13 @@ fn print_cards(replicas: [Replica; 7], count: usize, text: &mut [u8; TEXT], p: P
 
 // The end of a journal. Where the input could not be read to its end, what was collected is
 // written, and no cards.
-fn finish(k: u8, replicas: [Replica; 7], text: &mut [u8; TEXT], p: Printed, failed: bool) -> bool {
+fn finish(
+    k: u8,
+    replicas: [Replica; MAX_REPLICAS],
+    text: &mut [u8; TEXT],
+    p: Printed,
+    failed: bool,
+) -> bool {
     if !p.ok {
         return false;
     }

@@ -1,5 +1,5 @@
 -- Document 01's sizes and limits, each said once. src/lib.rt has the same numbers for the code.
-use Prim.Native.Nat.{ℕ, _*_, _^_}
+use Prim.Native.Nat.{ℕ, _-_, _*_, _^_}
 
 -- k is at most this
 abbrev pub maxK : ℕ
@@ -20,6 +20,10 @@ maxTime = 2 ^ 62
 -- the variables of a copy
 abbrev pub variableCount : ℕ
 variableCount = 256
+
+-- the count of writes performed holds at this, the greatest 64-bit number
+abbrev pub maxWrites : ℕ
+maxWrites = 2 ^ 64 - 1
 
 -- the pending requests, document 01's shelf, that a replica has places for
 abbrev pub places : ℕ

@@ -10,7 +10,7 @@ pub const MAX_K: u8 = 3;
 pub const MAX_GROUPS: u8 = 4;
 
 // The replicas of the largest unit: 2k + 1.
-pub const MAX_REPLICAS: u8 = 7;
+pub const MAX_REPLICAS: usize = 7;
 
 // δ is at most this, in units of a replica's clock.
 pub const MAX_DELTA: u64 = 1000000;
@@ -20,6 +20,9 @@ pub const MAX_TIME: u64 = 4611686018427387904;
 
 // The variables of a copy.
 pub const VARIABLES: usize = 256;
+
+// The count of writes performed holds at this, the greatest 64-bit number.
+pub const MAX_WRITES: u64 = 18446744073709551615;
 
 // The pending requests (document 01's shelf) that a replica has places for.
 pub const PLACES: usize = 64;

@@ -8,7 +8,7 @@ use lib.ListN.{length, take, drop, length-drop, drop-of-length-le}
 use lib.Seq.{take-all, take-nil}
 use native.Mathlib.Omega.{arith}
 use borrow.Author.Tests.{leb-true, leb-false}
-use Rattle.question.specs.Question.{Answer, given, refused, Worked, bind, next, after, verdict}
+use Rattle.question.specs.Question.{Answer, given, refused, Worked, next, after, verdict, mapAnswer}
 use Rattle.rules.specs.declared.Settings.{Settings}
 use Rattle.rules.specs.Replica.{State, Stepped}
 use Rattle.playback.specs.Page.{answerLines, joined}
@@ -49,10 +49,10 @@ module _ (bytes : List ℕ) where
 -- ── the answer ──
 
 abbrev sentNothing : List ℕ → Answer State → Answer Stepped
-sentNothing output answer = bind answer (λ t. given (record { state = t; count = 0; output = output }))
+sentNothing output answer = mapAnswer (λ t. record { state = t; count = 0; output = output }) answer
 
 pub nothing-sent : {A : Type 0} (alone : Answer Worked) (answer : Answer A) →
-    alone ≡ verdict answer → next alone (given 0) ≡ bind {B = ℕ} answer (λ _. given 0)
+    alone ≡ verdict answer → next alone (given 0) ≡ mapAnswer {B = ℕ} (λ _. 0) answer
 nothing-sent alone (given a) e = rw e
 nothing-sent alone (refused number) e = rw e
 
@@ -61,17 +61,17 @@ refused-next (given done) q e = absurd (let z : _≡_ {A = ℕ} 0 1 = cc in omeg
 refused-next (refused number) q e = cc
 
 pub count-delivered : (output : List ℕ) (answer : Answer State) →
-    bind {B = ℕ} answer (λ _. given 0) ≡ bind (sentNothing output answer) (λ d. given (d .count))
+    mapAnswer {B = ℕ} (λ _. 0) answer ≡ mapAnswer (λ d. d .count) (sentNothing output answer)
 count-delivered output (given t) = refl
 count-delivered output (refused number) = refl
 
 pub state-delivered : (s : State) (output : List ℕ) (answer : Answer State) →
-    after s answer ≡ after s (bind (sentNothing output answer) (λ d. given (d .state)))
+    after s answer ≡ after s (mapAnswer (λ d. d .state) (sentNothing output answer))
 state-delivered s output (given t) = refl
 state-delivered s output (refused number) = refl
 
 pub output-delivered : (output : List ℕ) (answer : Answer State) →
-    output ≡ after output (bind (sentNothing output answer) (λ d. given (d .output)))
+    output ≡ after output (mapAnswer (λ d. d .output) (sentNothing output answer))
 output-delivered output (given t) = refl
 output-delivered output (refused number) = refl
 
@@ -79,7 +79,7 @@ output-delivered output (refused number) = refl
 
 -- what the answer and the records of a call print is what the journal's definition prints of it
 pub played-text : (u : Settings) (place replica : ℕ) (replicas : List State) (output : List ℕ) (answer : Answer Stepped) →
-    joined (answerLines (u .k) (u .groups) place (bind answer (λ d. given (d .count))) (after output (bind answer (λ d. given (d .output)))))
+    joined (answerLines (u .k) (u .groups) place (mapAnswer (λ d. d .count) answer) (after output (mapAnswer (λ d. d .output) answer)))
     ≡ putBack u place replica replicas answer .text
 played-text u place replica replicas output (given d) = refl
 played-text u place replica replicas output (refused number) = refl

@@ -3,7 +3,7 @@ use Prim.Native.Nat.{ℕ}
 use mathlib.Core.Path.{_≡_, refl, ap, _∙_}
 use mathlib.Core.List.{List, _++_}
 use native.Mathlib.Omega.{arith}
-use Rattle.question.specs.Question.{Answer, given, refused, after, bind}
+use Rattle.question.specs.Question.{Answer, given, refused, after, mapAnswer}
 use Rattle.record.specs.declared.message.Message.{Message}
 use Rattle.rules.specs.Batch.{Effect, follow}
 use Rattle.rules.specs.declared.Settings.{Settings}
@@ -22,14 +22,14 @@ effect r sent = record { state = stateOf r; sent = sent }
 
 -- the messages that are found are those of the step's own records
 found-sent : (r : Replica) (a : Answer Stepped) (answer : StepAnswer) (output : List ℕ)
-    → stepAnswer answer ≡ bind a (λ d. given (d .count))
-    → found r answer (after output (bind a (λ d. given (d .output)))) ≡ sentBy (stateOf r) a .sent
+    → stepAnswer answer ≡ mapAnswer (λ d. d .count) a
+    → found r answer (after output (mapAnswer (λ d. d .output) a)) ≡ sentBy (stateOf r) a .sent
 found-sent r (given d) (Sent count) output e = let i : count ≡ d .count = cc in rw i
 found-sent r (given d) (Refused number) output e = absurd (let z : _≡_ {A = ℕ} 0 1 = cc in omega arith)
 found-sent r (refused number) (Sent count) output e = absurd (let z : _≡_ {A = ℕ} 0 1 = cc in omega arith)
 found-sent r (refused number) (Refused q) output e = refl
 
-step-state : (s : State) (a : Answer Stepped) → after s (bind a (λ d. given (d .state))) ≡ sentBy s a .state
+step-state : (s : State) (a : Answer Stepped) → after s (mapAnswer (λ d. d .state) a) ≡ sentBy s a .state
 step-state s (given d) = refl
 step-state s (refused number) = refl
 

@@ -14,6 +14,7 @@ use batch::all_reads;
 use batch::first_of;
 use batch::is_unanimous;
 use batch::take_off;
+use limits::MAX_WRITES;
 use limits::VARIABLES;
 use record::Request;
 use record::Timestamp;
@@ -35,7 +36,7 @@ fn may_change(r: Replica, group: u8) -> bool
 fn one_more(writes: u64) -> u64
     ensures { λ n. ⌜ n ≡ oneMore writes ⌝ }
 {
-    if writes < 18446744073709551615 {
+    if writes < MAX_WRITES {
         writes + 1
     } else {
         writes
