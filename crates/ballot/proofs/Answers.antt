@@ -2,59 +2,52 @@
 use Prim.Native.Nat.{ℕ, zero, suc, _+_, _-_, _*_, _≤_, _<_}
 use mathlib.Core.Path.{_≡_, refl, sym, _∙_, ap}
 use mathlib.Core.Logic.{_⊎_, inl, inr, ⊎-elim}
-use mathlib.Core.Bool.{Bool, true, false, _&&_, and-false}
-use mathlib.Core.List.{List, [], _∷_}
+use mathlib.Core.Bool.{Bool, true, false, _&&_}
+use mathlib.Core.List.{List, [], _∷_, _++_}
 use native.Mathlib.Omega.{arith}
 use lib.Dec.{eqb, leb}
-use lib.ListN.{length}
 use borrow.Author.Tests.{eqb-true, eqb-false, leb-true}
-use Rattle.question.specs.Question.{_else_, Answer, given, refused, Worked, worked, ask, next, within, unitQuestions}
-use Rattle.question.proofs.Questions.{ask-next}
-use Rattle.question.proofs.Tests.{both, within-true}
-use Rattle.record.specs.Record.{messageQuestions}
+use Rattle.question.specs.Question.{Question, _else_, Answer, given, refused, Worked, worked, ask, allYes, next, unitQuestions}
+use Rattle.question.proofs.Questions.{AllYes, all-yes-parts, next-asked}
+use Rattle.question.proofs.Tests.{case, true-not-false, both, unit-facts}
+use Rattle.record.specs.Record.{messageFields, fieldQuestions, passes}
+use Rattle.record.specs.declared.kind.Family.the-variants.{Messages}
 use Rattle.record.specs.declared.message.Message.{Message}
+use Rattle.record.proofs.Facts.{field-facts, message-sender}
 use Rattle.rules.specs.Lists.{some, tally}
-use Rattle.rules.specs.Vote.{passes, counts, halts, says, support, elect, askList, vote, haltCount}
+use Rattle.rules.specs.Vote.{answers, haltsFor, countsFor, countsAsHalt, says, support, elect, listQuestions, vote, haltCount}
 use Rattle.rules.specs.declared.Query.{Query}
 use Rattle.laws.proofs.Ballot.{says-in, elect-wins, elect-refused}
-use Rattle.question.proofs.Tests.{case, true-not-false}
 use Rattle.laws.proofs.Lists.{some-in, tally-hit}
-use Rattle.ballot.specs.Sets.{has}
-use Rattle.ballot.specs.Ballot.{ballotOf, valueOf, gave, supportIn, electIn, haltCountIn, askBallot}
+use Rattle.ballot.specs.Sets.{lastReplica, has}
+use Rattle.ballot.specs.Ballot.{ballotOf, valueOf, gave, supportIn, electIn, haltsIn, ballotQuestions, voteOn, haltCountOn}
 use Rattle.ballot.specs.declared.ballot.Ballot.{Ballot}
 use Rattle.ballot.proofs.Heard.{ballot-short, ballot-gave, ballot-halted}
 use Rattle.ballot.proofs.Numbers.{tally-past, tally-same}
 
 -- ── the questions ──
 
--- questions 1, 2 and 16 asked by themselves decide as they do before what follows
-pub ballot-asked : {A : Type 0} (k n : ℕ) (b : Ballot) (rest : Answer A) (alone : Answer Worked)
-    → alone ≡ askBallot k n b (given worked) → next alone rest ≡ askBallot k n b rest
-ballot-asked k n b rest alone e =
-    rw e (sym (ap (ask (unitQuestions k n)) (ask-next ((b .short else 16) ∷ []) (given worked) rest) ∙ ask-next (unitQuestions k n) (ask ((b .short else 16) ∷ []) (given worked)) rest))
+-- what follows questions may use that all were answered yes
+ask-after : {A : Type 0} (questions : List Question) (one other : Answer A) → (AllYes questions → one ≡ other) → ask questions one ≡ ask questions other
+unfolding ask
+ask-after [] one other h = h tt
+ask-after ((true else number) ∷ questions) one other h = ask-after questions one other (λ all. h (refl, all))
+ask-after ((false else number) ∷ questions) one other h = refl
 
--- after question 1 k is at most 3
-after-unit : {A : Type 0} (k n : ℕ) (one other : Answer A) → (k ≤ 3 → one ≡ other) → ask (unitQuestions k n) one ≡ ask (unitQuestions k n) other
-unfolding ask unitQuestions
-after-unit k n one other h = case (within 0 3 k)
-    (λ e. rw (e, h (within-true 0 3 k e .1)))
-    (λ e. rw e)
+all-yes : (questions : List Question) → allYes questions ≡ true → AllYes questions
+all-yes [] e = tt
+all-yes ((holds else number) ∷ questions) e = let a = both holds (allYes questions) e in (a .0, all-yes questions (a .1))
 
--- a message that passes is of a replica that the unit has
-passes-replica : (k n : ℕ) (m : Message) → passes k n m ≡ true → m .replica ≤ 2 * k + 1
-unfolding messageQuestions
-passes-replica k n m e = case (within 1 (2 * k + 1) (m .replica))
-    (λ f. within-true 1 (2 * k + 1) (m .replica) f .1)
-    (λ f. true-not-false (passes k n m) e (rw (f, and-false, and-false, and-false)))
+module _ (k n : ℕ) (b : Ballot) (alone : Answer Worked) (asked : alone ≡ ask (ballotQuestions k n b) (given worked)) where
+  -- the questions asked by themselves decide as they do before the election
+  pub vote-next : next alone (electIn k b lastReplica) ≡ voteOn k n b
+  unfolding voteOn
+  vote-next = next-asked (ballotQuestions k n b) (electIn k b lastReplica) alone asked
 
-counts-replica : (k n : ℕ) (q : Query) (m : Message) → counts k n q m ≡ true → m .replica ≤ 2 * k + 1
-unfolding counts
-counts-replica k n q m e = case (passes k n m) (λ f. passes-replica k n m f) (λ f. true-not-false (counts k n q m) e (rw f))
-
-halts-replica : (k n group process : ℕ) (m : Message) → halts k n group process m ≡ true → m .replica ≤ 2 * k + 1
-unfolding halts
-halts-replica k n group process m e =
-    case (passes k n m) (λ f. passes-replica k n m f) (λ f. true-not-false (halts k n group process m) e (rw f))
+  -- and before the count
+  pub halts-next : next alone (given (haltsIn b)) ≡ haltCountOn k n b
+  unfolding haltCountOn
+  halts-next = next-asked (ballotQuestions k n b) (given (haltsIn b)) alone asked
 
 -- ── the election ──
 
@@ -101,58 +94,76 @@ module _ (k n : ℕ) (q : Query) (list : List Message) where
   abbrev ballot : Ballot
   ballot = ballotOf k n q list
 
+  abbrev replying : Message → Bool
+  replying = countsFor k n q
+
   abbrev halting : Message → Bool
-  halting = halts k n (q .group) (q .process)
+  halting = countsAsHalt k n (q .group) (q .process)
+
+  -- who sent a halt that counts
+  abbrev halts : ℕ → Bool
+  halts i = some (λ m. halting m && eqb (m .replica) i) list
+
+  -- a message that passes is of a replica that the unit has
+  passes-replica : (m : Message) → passes k n m ≡ true → m .replica ≤ 2 * k + 1
+  passes-replica m e = message-sender (field-facts Messages k n (messageFields m) (all-yes (fieldQuestions Messages k n (messageFields m)) e)) .1
+
+  says-replica : (i v : ℕ) → says replying i v list ≡ true → i ≤ 2 * k + 1
+  unfolding countsFor
+  says-replica i v e =
+      let r = says-in replying i v list e in
+      omega (arith, passes-replica (r .0) (both (passes k n (r .0)) (answers q (r .0)) (r .2) .0), r .3)
+
+  halts-replica : (i : ℕ) → halts i ≡ true → i ≤ 2 * k + 1
+  unfolding countsAsHalt
+  halts-replica i e =
+      let r = some-in (λ m. halting m && eqb (m .replica) i) list e in
+      let a = both (halting (r .0)) (eqb (r .0 .replica) i) (r .2) in
+      omega (arith, passes-replica (r .0) (both (passes k n (r .0)) (haltsFor (q .group) (q .process) (r .0)) (a .0) .0), eqb-true (r .0 .replica) i (a .1))
 
   module _ (small : k ≤ 3) where
-    ballot-support : (v : ℕ) → supportIn ballot v ≡ support k (counts k n q) list v
-    unfolding supportIn
-    ballot-support v =
-        tally-same (gave ballot v) (λ i. says (counts k n q) i v list) 7 (λ i lo hi. ballot-gave k n q list i lo hi v)
-        ∙ tally-past (λ i. says (counts k n q) i v list) (2 * k + 1) 7 (omega arith) (λ i h. case (says (counts k n q) i v list)
-        (λ e. let r = says-in (counts k n q) i v list e in absurd (omega (arith, counts-replica k n q (r .0) (r .2), r .3)))
-        (λ e. e))
+    -- a test that agrees with the ballot's on each replica, and that only the unit's replicas pass, has the same tally
+    unit-tally : (p t : ℕ → Bool) → ((i : ℕ) → 1 ≤ i → i ≤ lastReplica → p i ≡ t i) → ((i : ℕ) → t i ≡ true → i ≤ 2 * k + 1) → tally p lastReplica ≡ tally t (2 * k + 1)
+    unit-tally p t same own =
+        tally-same p t lastReplica same
+        ∙ tally-past t (2 * k + 1) lastReplica (omega arith) (λ i h. case (t i) (λ e. absurd (omega (arith, own i e))) (λ e. e))
 
-    ballot-halts : haltCountIn ballot ≡ tally (λ i. some (λ m. halting m && eqb (m .replica) i) list) (2 * k + 1)
-    unfolding haltCountIn
-    ballot-halts =
-        tally-same (has (ballot .halted)) (λ i. some (λ m. halting m && eqb (m .replica) i) list) 7
-        (λ i lo hi. ballot-halted k n q list i lo hi)
-        ∙ tally-past (λ i. some (λ m. halting m && eqb (m .replica) i) list) (2 * k + 1) 7 (omega arith) (λ i h.
-        case (some (λ m. halting m && eqb (m .replica) i) list)
-        (λ e.
-        let r = some-in (λ m. halting m && eqb (m .replica) i) list e in
-        let a = both (halting (r .0)) (eqb (r .0 .replica) i) (r .2) in
-        absurd (omega (arith, halts-replica k n (q .group) (q .process) (r .0) (a .0), eqb-true (r .0 .replica) i (a .1))))
-        (λ e. e))
+    ballot-support : (v : ℕ) → supportIn ballot v ≡ support k replying list v
+    unfolding supportIn
+    ballot-support v = unit-tally (gave ballot v) (λ i. says replying i v list) (λ i lo hi. ballot-gave k n q list i lo hi v) (λ i. says-replica i v)
+
+    ballot-halts : haltsIn ballot ≡ tally halts (2 * k + 1)
+    unfolding haltsIn
+    ballot-halts = unit-tally (has (ballot .halted)) halts (ballot-halted k n q list) halts-replica
 
     -- where the list gives a value k + 1, one of its replicas wins
-    winner : (v : ℕ) → leb (k + 1) (support k (counts k n q) list v) ≡ true → (i : ℕ) × (1 ≤ i) × (i ≤ 7) × (wins k ballot i ≡ true)
+    winner : (v : ℕ) → leb (k + 1) (support k replying list v) ≡ true → (i : ℕ) × (1 ≤ i) × (i ≤ lastReplica) × (wins k ballot i ≡ true)
     winner v e =
-        let a = tally-hit (λ i. says (counts k n q) i v list) (2 * k + 1) (omega (arith, leb-true (k + 1) (support k (counts k n q) list v) e)) in
-        let small-i : a .0 ≤ 7 = omega (arith, a .2) in
-        let g = both (has (ballot .heard) (a .0)) (eqb (valueOf ballot (a .0)) v) (ballot-gave k n q list (a .0) (a .1) small-i v ∙ a .3) in
-        (a .0, a .1, small-i, rw (g .0, eqb-true (valueOf ballot (a .0)) v (g .1), ballot-support v, e))
+        let a = tally-hit (λ i. says replying i v list) (2 * k + 1) (omega (arith, leb-true (k + 1) (support k replying list v) e)) in
+        let high : a .0 ≤ lastReplica = omega (arith, a .2) in
+        let g = both (has (ballot .heard) (a .0)) (eqb (valueOf ballot (a .0)) v) (ballot-gave k n q list (a .0) (a .1) high v ∙ a .3) in
+        (a .0, a .1, high, rw (g .0, eqb-true (valueOf ballot (a .0)) v (g .1), ballot-support v, e))
 
-    ballot-elects : electIn k ballot 7 ≡ elect k (counts k n q) list list
+    ballot-elects : electIn k ballot lastReplica ≡ elect k replying list list
     ballot-elects = ⊎-elim
-        (λ l. l .1 ∙ sym (elect-wins k (counts k n q) list (l .0) (rw (ballot-support (l .0)) at (l .2))))
-        (λ r. r .0 ∙ sym (elect-refused k (counts k n q) list (λ v. case (leb (k + 1) (support k (counts k n q) list v))
+        (λ l. l .1 ∙ sym (elect-wins k replying list (l .0) (rw (ballot-support (l .0)) at (l .2))))
+        (λ r. r .0 ∙ sym (elect-refused k replying list (λ v. case (leb (k + 1) (support k replying list v))
         (λ e. let w = winner v e in true-not-false (wins k ballot (w .0)) (w .3) (r .1 (w .0) (w .1) (w .2)))
         (λ e. e)) list))
-        (elected k ballot 7)
+        (elected k ballot lastReplica)
 
-  ballot-ask : {A : Type 0} (one other : Answer A) → (k ≤ 3 → one ≡ other) → askBallot k n ballot one ≡ askList k n list other
-  ballot-ask one other h =
-      ap (λ (t : Bool). ask (unitQuestions k n) (ask ((t else 16) ∷ []) one)) (ballot-short k n q list)
-      ∙ after-unit k n _ _ (λ small. ap (ask ((leb (length list) 64 else 16) ∷ [])) (h small))
+  -- questions 1, 2 and 16 of the ballot are those of the list, and k is at most 3 after them
+  ballot-asked : {A : Type 0} (one other : Answer A) → (k ≤ 3 → one ≡ other) → ask (ballotQuestions k n ballot) one ≡ ask (listQuestions k n list) other
+  ballot-asked one other h =
+      rw (ballot-short k n q list)
+      (ask-after (listQuestions k n list) one other (λ all. h (unit-facts k n (all-yes-parts (unitQuestions k n) _ all .0) .k-high)))
 
-  -- the vote of the ballot is the vote on the list
-  pub ballot-vote : askBallot k n ballot (electIn k ballot 7) ≡ vote k n q list
-  unfolding vote
-  ballot-vote = ballot-ask (electIn k ballot 7) (elect k (counts k n q) list list) ballot-elects
+  -- the vote on the ballot of a list is the vote on the list
+  pub vote-on : voteOn k n ballot ≡ vote k n q list
+  unfolding voteOn vote
+  vote-on = ballot-asked (electIn k ballot lastReplica) (elect k replying list list) ballot-elects
 
-  -- the halt count of the ballot is that on the list
-  pub ballot-halt-count : askBallot k n ballot (given (haltCountIn ballot)) ≡ haltCount k n (q .group) (q .process) list
-  unfolding haltCount
-  ballot-halt-count = ballot-ask (given (haltCountIn ballot)) _ (λ small. ap given (ballot-halts small))
+  -- and so is the halt count
+  pub halt-count-on : haltCountOn k n ballot ≡ haltCount k n (q .group) (q .process) list
+  unfolding haltCountOn haltCount
+  halt-count-on = ballot-asked (given (haltsIn ballot)) (given (tally halts (2 * k + 1))) (λ small. ap given (ballot-halts small))

@@ -13,7 +13,7 @@ use borrow.Author.Tests.{ltb-true, ltb-false, eqb-true, eqb-false, eq-eqb, ne-eq
 use Rattle.rules.specs.Lists.{tally}
 use Rattle.question.proofs.Tests.{case}
 use Rattle.laws.proofs.Lists.{tally-bound}
-use Rattle.ballot.specs.Sets.{has, with}
+use Rattle.ballot.specs.Sets.{lastReplica, has, with}
 
 -- ── what the code computes ──
 
@@ -25,7 +25,7 @@ unfolding has
 has-shift set zero h = absurd (omega arith)
 has-shift set (suc i) h = rw (less-one i) (ap (λ (x : ℕ). eqb x 1) (and-mask (set / 2 ^ i) 1))
 
-pub with-shift : (set replica : ℕ) → 1 ≤ replica → replica ≤ 7 → bitOr set (1 * 2 ^ (replica - 1) % 256) ≡ with set replica
+pub with-shift : (set replica : ℕ) → 1 ≤ replica → replica ≤ lastReplica → bitOr set (1 * 2 ^ (replica - 1) % 256) ≡ with set replica
 unfolding with
 with-shift set zero h g = absurd (omega arith)
 with-shift set (suc i) h g =
@@ -101,7 +101,7 @@ ones-has set (suc n) = case (eqb (set / 2 ^ n % 2) 1)
     (λ e. rw e (omega (arith, ones-cut set n, ones-has set n, rw e at (ones-bit (set / 2 ^ n)))))
 
 -- what the code counts: bits that are no replica's are left out
-pub ones-masked : (set : ℕ) → ones (bitAnd set 127) ≡ tally (has set) 7
+pub ones-masked : (set : ℕ) → ones (bitAnd set 127) ≡ tally (has set) lastReplica
 ones-masked set = ap ones (and-mask set 7) ∙ ones-has set 7
 
 pub ones-small : (set : ℕ) → ones (bitAnd set 127) < 2 ^ 64

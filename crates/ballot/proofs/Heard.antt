@@ -1,7 +1,7 @@
 -- The ballot of a list: of each replica it holds the first reply that counts, and whether a halt that counts came.
 use Prim.Native.Nat.{ℕ, _+_, _≤_, _<_}
 use mathlib.Core.Path.{_≡_, refl, sym, _∙_}
-use mathlib.Core.Bool.{Bool, true, false, cond, _&&_, _||_, and-false, or-false, or-assoc}
+use mathlib.Core.Bool.{Bool, true, false, cond, not, _&&_, _||_, and-false, or-false, or-assoc}
 use mathlib.Core.List.{List, [], _∷_}
 use native.Mathlib.Nat.{le-antisymm}
 use native.Mathlib.Numerals.{add-one}
@@ -9,192 +9,168 @@ use native.Mathlib.Omega.{arith}
 use lib.Dec.{eqb, leb}
 use lib.ListN.{length, getD, drop, length-set}
 use lib.Seq.{getD-set-same, getD-set-other, drop-cons, drop-length}
-use borrow.Author.Tests.{le-leb, eqb-true, eqb-false, eq-eqb, ne-eqb}
-use Rattle.question.proofs.Tests.{within-true}
-use Rattle.record.specs.declared.message.Message.{Message}
+use borrow.Author.Tests.{eqb-true, eqb-false, eq-eqb, ne-eqb, not-true}
+use Rattle.limits.specs.Limits.{maxList}
+use Rattle.question.proofs.Tests.{case, true-not-false, both, within-true, in-within}
 use Rattle.record.specs.Kind.{reply, halt}
+use Rattle.record.specs.Record.{passes}
+use Rattle.record.specs.declared.message.Message.{Message}
 use Rattle.rules.specs.Lists.{some}
-use Rattle.rules.specs.Vote.{counts, halts, says}
+use Rattle.rules.specs.Vote.{answers, haltsFor, countsFor, countsAsHalt, says}
 use Rattle.rules.specs.declared.Query.{Query}
-use Rattle.question.proofs.Tests.{case, true-not-false}
-use Rattle.ballot.specs.Sets.{isReplica, has, lacks}
-use Rattle.ballot.specs.Ballot.{newBallot, hearReply, hearHalt, hear, hearAll, ballotOf, valueOf, gave}
+use Rattle.ballot.specs.Sets.{lastReplica, isReplica, has, lacks}
+use Rattle.ballot.specs.Ballot.{newBallot, noteReply, noteHalt, hear, hearAll, ballotOf, valueOf, gave}
 use Rattle.ballot.specs.declared.ballot.Ballot.{Ballot}
 use Rattle.ballot.proofs.Bits.{has-none, has-with}
 
 -- there is a value for each replica
 abbrev Sized : Ballot → Type 0
-Sized b = length (b .values) ≡ 8
-
--- ── one message ──
+Sized b = lastReplica < length (b .values)
 
 -- whether the value of a replica is the given one, where a reply was heard; the other answer where none was
 abbrev noted : Ballot → ℕ → ℕ → Bool → Bool
 noted b value replica other = cond (has (b .heard) replica) (eqb (valueOf b replica) value) other
 
-module _ (b : Ballot) (replica : ℕ) where
-  reply-sized : Sized b → (value : ℕ) → Sized (hearReply b replica value)
-  unfolding hearReply
-  reply-sized sized value = case (lacks (b .heard) replica)
-      (λ e. rw e (length-set (b .values) replica value ∙ sized))
-      (λ e. rw e sized)
-
-  halt-sized : Sized b → Sized (hearHalt b replica)
-  unfolding hearHalt
-  halt-sized sized = case (isReplica replica) (λ e. rw e sized) (λ e. rw e sized)
-
-  module _ (i : ℕ) (low : 1 ≤ i) (high : i ≤ 7) where
-    -- a number that no replica has is not this one
-    no-replica : isReplica replica ≡ false → eqb replica i ≡ false
-    no-replica e = ne-eqb replica i (λ f. true-not-false (isReplica replica) (rw (f, le-leb 1 i low, le-leb i 7 high)) e)
-
-    -- a first reply is noted, of its replica alone
-    reply-noted : Sized b → (value v : ℕ) (other : Bool)
-        → noted (hearReply b replica value) v i other ≡ noted b v i (cond (eqb replica i) (eqb value v) other)
-    unfolding hearReply
-    reply-noted sized value v other = case (isReplica replica)
-        (λ e. case (has (b .heard) replica)
-        (λ h. case (eqb replica i) (λ f. let g = eqb-true replica i f in rw (← g, e, h, h)) (λ f. rw (e, h, f)))
-        (λ h. case (eqb replica i) (λ f. same e h f) (λ f. apart e h f)))
-        (λ e. rw (e, no-replica e))
-      where
-        same : isReplica replica ≡ true → has (b .heard) replica ≡ false → eqb replica i ≡ true
-            → noted (hearReply b replica value) v i other ≡ noted b v i (cond (eqb replica i) (eqb value v) other)
-        same e h f =
-            let g = eqb-true replica i f in
-            let a : replica < length (b .values) = omega (arith, sized, within-true 1 7 replica e .1) in
-            let one = has-with (b .heard) replica replica (within-true 1 7 replica e .0) in
-            rw (← g, e, h, one, h, eq-eqb replica replica refl, getD-set-same (b .values) replica value 0 a)
-
-        apart : isReplica replica ≡ true → has (b .heard) replica ≡ false → eqb replica i ≡ false
-            → noted (hearReply b replica value) v i other ≡ noted b v i (cond (eqb replica i) (eqb value v) other)
-        apart e h f =
-            let g : i ≡ replica → ⊥ = λ g. eqb-false replica i f (sym g) in
-            let one = has-with (b .heard) replica i (within-true 1 7 replica e .0) in
-            rw (e, h, one, f, or-false, getD-set-other (b .values) replica i value 0 g)
-
-    -- a reply is no halt
-    reply-halted : (value : ℕ) → has (hearReply b replica value .halted) i ≡ has (b .halted) i
-    unfolding hearReply
-    reply-halted value = case (lacks (b .heard) replica) (λ e. rw e) (λ e. rw e)
-
-    -- a halt is no reply
-    halt-noted : (v : ℕ) (other : Bool) → noted (hearHalt b replica) v i other ≡ noted b v i other
-    unfolding hearHalt
-    halt-noted v other = case (isReplica replica) (λ e. rw e) (λ e. rw e)
-
-    -- a halt is noted, of its replica alone
-    halt-halted : has (hearHalt b replica .halted) i ≡ has (b .halted) i || eqb replica i
-    unfolding hearHalt
-    halt-halted = case (isReplica replica)
-        (λ e. rw e (has-with (b .halted) replica i (within-true 1 7 replica e .0)))
-        (λ e. rw (e, no-replica e) (sym (or-false (has (b .halted) i))))
-
--- ── message after message ──
-
--- a reply that counts is no halt that counts
-pub counts-no-halt : (k n : ℕ) (q : Query) (m : Message) → counts k n q m ≡ true → halts k n (q .group) (q .process) m ≡ false
-unfolding counts halts
-counts-no-halt k n q m e = case (eqb (m .kind) halt)
-    (λ f. true-not-false (counts k n q m) e (rw (ne-eqb (m .kind) reply (λ g. omega (arith, eqb-true (m .kind) halt f)), and-false)))
-    (λ f. rw (f, and-false))
+-- a set could have a replica that it has not
+pub lacks-parts : (set replica : ℕ) → lacks set replica ≡ true → (isReplica replica ≡ true) × (has set replica ≡ false)
+lacks-parts set replica e =
+    let a = both (isReplica replica) (not (has set replica)) e in
+    (a .0, not-true (has set replica) (a .1))
 
 module _ (k n : ℕ) (q : Query) where
-  hear-sized : (b : Ballot) → Sized b → (m : Message) → Sized (hear k n q b m)
-  unfolding hear
-  hear-sized b sized m = case (counts k n q m)
-      (λ e. rw e (reply-sized b (m .replica) sized (m .value)))
-      (λ e. case (halts k n (q .group) (q .process) m) (λ f. rw (e, f) (halt-sized b (m .replica) sized)) (λ f. rw (e, f) sized))
+  abbrev replying : Message → Bool
+  replying = countsFor k n q
 
-  hear-short : (b : Ballot) (m : Message) → hear k n q b m .short ≡ b .short
-  unfolding hear hearReply hearHalt
-  hear-short b m = case (counts k n q m)
-      (λ e. case (lacks (b .heard) (m .replica)) (λ f. rw (e, f)) (λ f. rw (e, f)))
-      (λ e. case (halts k n (q .group) (q .process) m)
-      (λ f. case (isReplica (m .replica)) (λ g. rw (e, f, g)) (λ g. rw (e, f, g)))
-      (λ f. rw (e, f)))
+  abbrev halting : Message → Bool
+  halting = countsAsHalt k n (q .group) (q .process)
+
+  -- a reply that counts is no halt that counts
+  reply-no-halt : (m : Message) → replying m ≡ true → halting m ≡ false
+  unfolding countsFor countsAsHalt
+  reply-no-halt m e = case (eqb (m .kind) reply)
+      (λ f. rw (ne-eqb (m .kind) halt (λ g. omega (arith, eqb-true (m .kind) reply f)), and-false))
+      (λ f. true-not-false (replying m) e (rw (f, and-false)))
+
+  -- ── one message ──
+
+  -- what a message leaves: a reply noted, a halt noted, or the ballot
+  heard-cases : (b : Ballot) (m : Message) (P : Ballot → Type 0)
+      → ((replying m && lacks (b .heard) (m .replica)) ≡ true → P (noteReply b (m .replica) (m .value)))
+      → ((replying m && lacks (b .heard) (m .replica)) ≡ false → (halting m && isReplica (m .replica)) ≡ true → P (noteHalt b (m .replica)))
+      → ((replying m && lacks (b .heard) (m .replica)) ≡ false → (halting m && isReplica (m .replica)) ≡ false → P b)
+      → P (hear k n q b m)
+  unfolding hear
+  heard-cases b m P f g h = case (replying m && lacks (b .heard) (m .replica))
+      (λ e. rw e (f e))
+      (λ e. case (halting m && isReplica (m .replica)) (λ d. rw (e, d) (g e d)) (λ d. rw (e, d) (h e d)))
+
+  heard-sized : (b : Ballot) → Sized b → (m : Message) → Sized (hear k n q b m)
+  heard-sized b sized m =
+      heard-cases b m Sized (λ e. rw (length-set (b .values) (m .replica) (m .value)) sized) (λ e d. sized) (λ e d. sized)
+
+  heard-short : (b : Ballot) (m : Message) → hear k n q b m .short ≡ b .short
+  heard-short b m = heard-cases b m (λ c. c .short ≡ b .short) (λ e. refl) (λ e d. refl) (λ e d. refl)
+
+  module _ (i : ℕ) (low : 1 ≤ i) (high : i ≤ lastReplica) (b : Ballot) (m : Message) where
+    -- a reply that is not noted is of another replica, or its first came
+    later-reply : (replying m && lacks (b .heard) (m .replica)) ≡ false → (v : ℕ) (other : Bool)
+        → noted b v i other ≡ noted b v i (cond (replying m && eqb (m .replica) i) (eqb (m .value) v) other)
+    later-reply e v other = case (has (b .heard) i) (λ h. rw h) (λ h. rw h (case (replying m && eqb (m .replica) i)
+        (λ d.
+        let a = both (replying m) (eqb (m .replica) i) d in
+        true-not-false (replying m && lacks (b .heard) (m .replica)) (rw (a .0, eqb-true (m .replica) i (a .1), in-within 1 lastReplica i low high, h)) e)
+        (λ d. rw d)))
+
+    first-reply : Sized b → (replying m && lacks (b .heard) (m .replica)) ≡ true → (v : ℕ) (other : Bool)
+        → noted (noteReply b (m .replica) (m .value)) v i other ≡ noted b v i (cond (replying m && eqb (m .replica) i) (eqb (m .value) v) other)
+    first-reply sized e v other =
+        let a = both (replying m) (lacks (b .heard) (m .replica)) e in
+        let free = lacks-parts (b .heard) (m .replica) (a .1) in
+        let range = within-true 1 lastReplica (m .replica) (free .0) in
+        rw (a .0, has-with (b .heard) (m .replica) i (range .0)) (case (eqb (m .replica) i)
+        (λ f.
+        let g = eqb-true (m .replica) i f in
+        rw (f, ← g, free .1, getD-set-same (b .values) (m .replica) (m .value) 0 (omega (arith, range .1))))
+        (λ f. rw (f, or-false, getD-set-other (b .values) (m .replica) i (m .value) 0 (λ g. eqb-false (m .replica) i f (sym g)))))
+
+    heard-noted : Sized b → (v : ℕ) (other : Bool)
+        → noted (hear k n q b m) v i other ≡ noted b v i (cond (replying m && eqb (m .replica) i) (eqb (m .value) v) other)
+    heard-noted sized v other =
+        heard-cases b m (λ c. noted c v i other ≡ noted b v i (cond (replying m && eqb (m .replica) i) (eqb (m .value) v) other))
+        (λ e. first-reply sized e v other) (λ e d. later-reply e v other) (λ e d. later-reply e v other)
+
+    heard-halted : has (hear k n q b m .halted) i ≡ has (b .halted) i || (halting m && eqb (m .replica) i)
+    heard-halted = heard-cases b m (λ c. has (c .halted) i ≡ has (b .halted) i || (halting m && eqb (m .replica) i))
+        (λ e. rw (reply-no-halt m (both (replying m) (lacks (b .heard) (m .replica)) e .0)) (sym (or-false (has (b .halted) i))))
+        (λ e d.
+        let a = both (halting m) (isReplica (m .replica)) d in
+        rw (a .0) (has-with (b .halted) (m .replica) i (within-true 1 lastReplica (m .replica) (a .1) .0)))
+        (λ e d. case (halting m && eqb (m .replica) i)
+        (λ f.
+        let a = both (halting m) (eqb (m .replica) i) f in
+        true-not-false (halting m && isReplica (m .replica)) (rw (a .0, eqb-true (m .replica) i (a .1), in-within 1 lastReplica i low high)) d)
+        (λ f. rw f (sym (or-false (has (b .halted) i)))))
+
+  -- ── message after message ──
 
   all-short : (b : Ballot) (list : List Message) → hearAll k n q b list .short ≡ b .short
   unfolding hearAll
   all-short b [] = refl
-  all-short b (m ∷ list) = all-short (hear k n q b m) list ∙ hear-short b m
+  all-short b (m ∷ list) = all-short (hear k n q b m) list ∙ heard-short b m
 
-  module _ (i : ℕ) (low : 1 ≤ i) (high : i ≤ 7) where
-    hear-noted : (b : Ballot) → Sized b → (m : Message) (v : ℕ) (other : Bool)
-        → noted (hear k n q b m) v i other ≡ noted b v i (cond (counts k n q m && eqb (m .replica) i) (eqb (m .value) v) other)
-    unfolding hear
-    hear-noted b sized m v other = case (counts k n q m)
-        (λ e. rw e (reply-noted b (m .replica) i low high sized (m .value) v other))
-        (λ e. case (halts k n (q .group) (q .process) m) (λ f. rw (e, f) (halt-noted b (m .replica) i low high v other)) (λ f. rw (e, f)))
-
-    hear-halted : (b : Ballot) → Sized b → (m : Message)
-        → has (hear k n q b m .halted) i ≡ has (b .halted) i || (halts k n (q .group) (q .process) m && eqb (m .replica) i)
-    unfolding hear
-    hear-halted b sized m = case (counts k n q m)
-        (λ e. rw (e, counts-no-halt k n q m e) (reply-halted b (m .replica) i low high (m .value) ∙ sym (or-false (has (b .halted) i))))
-        (λ e. case (halts k n (q .group) (q .process) m)
-        (λ f. rw (e, f) (halt-halted b (m .replica) i low high))
-        (λ f. rw (e, f) (sym (or-false (has (b .halted) i)))))
-
-    all-noted : (b : Ballot) → Sized b → (list : List Message) (v : ℕ)
-        → noted (hearAll k n q b list) v i false ≡ noted b v i (says (counts k n q) i v list)
+  module _ (i : ℕ) (low : 1 ≤ i) (high : i ≤ lastReplica) where
+    all-noted : (b : Ballot) → Sized b → (list : List Message) (v : ℕ) → noted (hearAll k n q b list) v i false ≡ noted b v i (says replying i v list)
     unfolding hearAll
     all-noted b sized [] v = refl
     all-noted b sized (m ∷ list) v =
-        all-noted (hear k n q b m) (hear-sized b sized m) list v ∙ hear-noted b sized m v (says (counts k n q) i v list)
+        all-noted (hear k n q b m) (heard-sized b sized m) list v ∙ heard-noted i low high b m sized v (says replying i v list)
 
-    all-halted : (b : Ballot) → Sized b → (list : List Message)
-        → has (hearAll k n q b list .halted) i
-        ≡ has (b .halted) i || some (λ m. halts k n (q .group) (q .process) m && eqb (m .replica) i) list
+    all-halted : (b : Ballot) (list : List Message)
+        → has (hearAll k n q b list .halted) i ≡ has (b .halted) i || some (λ m. halting m && eqb (m .replica) i) list
     unfolding hearAll
-    all-halted b sized [] = sym (or-false (has (b .halted) i))
-    all-halted b sized (m ∷ list) = all-halted (hear k n q b m) (hear-sized b sized m) list ∙ rw (hear-halted b sized m, or-assoc)
+    all-halted b [] = sym (or-false (has (b .halted) i))
+    all-halted b (m ∷ list) = all-halted (hear k n q b m) list ∙ rw (heard-halted i low high b m, or-assoc)
 
--- ── the tally ──
+  -- ── the tally ──
 
--- a message heard, and then those past it, is all from that message on
-pub hear-on : (k n : ℕ) (q : Query) (b : Ballot) (list : List Message) (i : ℕ) (other : Message) → i < length list
-    → hearAll k n q (hear k n q b (getD list i other)) (drop (i + 1) list) ≡ hearAll k n q b (drop i list)
-unfolding hearAll
-hear-on k n q b list i other h = rw (add-one, drop-cons list i other)
+  -- a message heard, and then those past it, is all from that message on
+  pub hear-on : (b : Ballot) (list : List Message) (i : ℕ) (other : Message) → i < length list
+      → hearAll k n q (hear k n q b (getD list i other)) (drop (i + 1) list) ≡ hearAll k n q b (drop i list)
+  unfolding hearAll
+  hear-on b list i other h = rw (add-one, drop-cons list i other)
 
--- past the last message there is none to hear
-pub hear-end : (k n : ℕ) (q : Query) (b : Ballot) (list : List Message) (i : ℕ) → i ≤ length list → length list ≤ i
-    → b ≡ hearAll k n q b (drop i list)
-unfolding hearAll
-hear-end k n q b list i lo hi = rw (le-antisymm lo hi, drop-length)
+  -- past the last message there is none to hear
+  pub hear-end : (b : Ballot) (list : List Message) (i : ℕ) → i ≤ length list → length list ≤ i → b ≡ hearAll k n q b (drop i list)
+  unfolding hearAll
+  hear-end b list i lo hi = rw (le-antisymm lo hi, drop-length)
 
--- ── the ballot of a list ──
+  -- ── the ballot of a list ──
 
-new-sized : (count : ℕ) → Sized (newBallot count)
-unfolding newBallot
-new-sized count = refl
+  module _ (list : List Message) where
+    abbrev fresh : Ballot
+    fresh = newBallot (length list)
 
-module _ (k n : ℕ) (q : Query) (list : List Message) (i : ℕ) (low : 1 ≤ i) (high : i ≤ 7) where
-  -- a replica gave a value that it says in its first reply that counts
-  pub ballot-gave : (v : ℕ) → gave (ballotOf k n q list) v i ≡ says (counts k n q) i v list
-  unfolding newBallot
-  ballot-gave v = gave-noted (ballotOf k n q list) ∙ all-noted k n q i low high (newBallot (length list)) (new-sized (length list)) list v ∙ new-noted
-    where
-      gave-noted : (b : Ballot) → gave b v i ≡ noted b v i false
-      gave-noted b = case (has (b .heard) i) (λ e. rw e) (λ e. rw e)
+    -- the ballot tells whether the list is too long
+    pub ballot-short : ballotOf k n q list .short ≡ leb (length list) maxList
+    unfolding newBallot
+    ballot-short = all-short fresh list
 
-      new-noted : noted (newBallot (length list)) v i (says (counts k n q) i v list) ≡ says (counts k n q) i v list
-      new-noted = rw (has-none i)
+    module _ (i : ℕ) (low : 1 ≤ i) (high : i ≤ lastReplica) where
+      -- a replica gave a value that it says in its first reply that counts
+      pub ballot-gave : (v : ℕ) → gave (ballotOf k n q list) v i ≡ says replying i v list
+      unfolding newBallot
+      ballot-gave v = gave-noted (ballotOf k n q list) ∙ all-noted i low high fresh (omega arith) list v ∙ new-noted
+        where
+          gave-noted : (b : Ballot) → gave b v i ≡ noted b v i false
+          gave-noted b = case (has (b .heard) i) (λ e. rw e) (λ e. rw e)
 
-  -- a replica halted of which a halt that counts came
-  pub ballot-halted : has (ballotOf k n q list .halted) i ≡ some (λ m. halts k n (q .group) (q .process) m && eqb (m .replica) i) list
-  unfolding newBallot
-  ballot-halted = all-halted k n q i low high (newBallot (length list)) (new-sized (length list)) list ∙ new-halted
-    where
-      new-halted : has (newBallot (length list) .halted) i || some (λ m. halts k n (q .group) (q .process) m && eqb (m .replica) i) list
-          ≡ some (λ m. halts k n (q .group) (q .process) m && eqb (m .replica) i) list
-      new-halted = rw (has-none i)
+          new-noted : noted fresh v i (says replying i v list) ≡ says replying i v list
+          new-noted = rw (has-none i)
 
--- the ballot tells whether the list is too long
-pub ballot-short : (k n : ℕ) (q : Query) (list : List Message) → ballotOf k n q list .short ≡ leb (length list) 64
-unfolding newBallot
-ballot-short k n q list = all-short k n q (newBallot (length list)) list ∙ new-short
-  where
-    new-short : newBallot (length list) .short ≡ leb (length list) 64
-    new-short = refl
+      -- a replica halted of which a halt that counts came
+      pub ballot-halted : has (ballotOf k n q list .halted) i ≡ some (λ m. halting m && eqb (m .replica) i) list
+      unfolding newBallot
+      ballot-halted = all-halted i low high fresh list ∙ new-halted
+        where
+          new-halted : has (fresh .halted) i || some (λ m. halting m && eqb (m .replica) i) list ≡ some (λ m. halting m && eqb (m .replica) i) list
+          new-halted = rw (has-none i)

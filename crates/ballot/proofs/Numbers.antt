@@ -1,26 +1,23 @@
 -- Laws of the tally of the numbers from 1 up: one number more, the same numbers, and numbers past which none passes.
 use Prim.Native.Nat.{ℕ, zero, suc, _+_, _≤_, _<_}
 use mathlib.Core.Path.{_≡_, refl, _∙_, ap}
-use mathlib.Core.Bool.{Bool, false, cond}
+use mathlib.Core.Bool.{Bool, false}
 use native.Mathlib.Numerals.{add-one}
 use native.Mathlib.Omega.{arith}
 use lib.Dec.{leb}
+use mir.Val.{boolByte}
 use borrow.Author.Tests.{leb-true, leb-false}
 use Rattle.rules.specs.Lists.{tally}
 use Rattle.question.proofs.Tests.{case}
 use Rattle.laws.proofs.Lists.{tally-bound}
 
 module _ (p : ℕ → Bool) where
-  -- one number more adds one where it passes
-  tally-next : (n : ℕ) → tally p n + cond (p (n + 1)) 1 0 ≡ tally p (n + 1)
-  tally-next n = rw add-one (case (p (suc n)) (λ e. rw e (omega arith)) (λ e. rw e (omega arith)))
-
   -- a count that goes on by one number
-  pub counted : (n count one : ℕ) → count ≡ tally p n → one ≡ cond (p (n + 1)) 1 0 → count + one ≡ tally p (n + 1)
-  counted n count one e f = omega (arith, tally-next n)
+  pub counted : (n count : ℕ) → count ≡ tally p n → count + boolByte (p (n + 1)) ≡ tally p (n + 1)
+  counted n count e = rw (e, add-one) (case (p (suc n)) (λ f. rw f (omega arith)) (λ f. rw f (omega arith)))
 
-  pub counted-bound : (n count one : ℕ) → count ≡ tally p n → one ≡ cond (p (n + 1)) 1 0 → count + one ≤ n + 1
-  counted-bound n count one e f = omega (arith, counted n count one e f, tally-bound p (n + 1))
+  pub counted-bound : (n count : ℕ) → count ≡ tally p n → count + boolByte (p (n + 1)) ≤ n + 1
+  counted-bound n count e = omega (arith, counted n count e, tally-bound p (n + 1))
 
   -- a count that reached the last number
   pub counted-all : (n last count : ℕ) → n ≤ last → last ≤ n → count ≡ tally p n → count ≡ tally p last

@@ -2,28 +2,29 @@
 -- says of the list is proved in proofs/Answers.antt.
 use Prim.Native.Nat.{ℕ, zero, suc, _+_}
 use mathlib.Core.Bool.{Bool, cond, _&&_}
-use mathlib.Core.List.{List, [], _∷_}
+use mathlib.Core.List.{List, [], _∷_, _++_}
 use lib.Dec.{eqb, leb}
 use lib.ListN.{length, getD, set, replicate}
-use Rattle.question.specs.Question.{_else_, Answer, given, refused, ask, unitQuestions}
-use Rattle.record.specs.Kind.{reply, halt}
+use Rattle.limits.specs.Limits.{maxList}
+use Rattle.question.specs.Question.{Question, _else_, Answer, given, refused, ask, unitQuestions}
+use Rattle.record.specs.declared.clock.Timestamp.{Timestamp}
 use Rattle.record.specs.declared.message.Message.{Message}
 use Rattle.rules.specs.Lists.{tally}
-use Rattle.rules.specs.Vote.{counts, halts}
+use Rattle.rules.specs.Vote.{countsFor, countsAsHalt}
 use Rattle.rules.specs.declared.Query.{Query}
-use Rattle.ballot.specs.Sets.{isReplica, has, lacks, with}
+use Rattle.ballot.specs.Sets.{lastReplica, isReplica, has, lacks, with}
 use Rattle.ballot.specs.declared.ballot.Ballot.{Ballot}
 
 -- ── by their fields ──
 
-abbrev pub messageOf : ℕ → ℕ → ℕ → ℕ → ℕ → ℕ → ℕ → Message
+abbrev pub messageOf : ℕ → ℕ → ℕ → ℕ → ℕ → Timestamp → ℕ → Message
 messageOf kind group process replica variable timestamp value = record {
   kind = kind;
   group = group;
   process = process;
   replica = replica;
   variable = variable;
-  timestamp = record { 0 = timestamp };
+  timestamp = timestamp;
   value = value;
 }
 
@@ -35,34 +36,21 @@ haltQuery group process = record { group = group; process = process; variable = 
 
 -- the ballot of a list of the given length, with nothing heard
 unfoldable pub newBallot : ℕ → Ballot
-newBallot length = record { values = replicate 8 0; heard = 0; halted = 0; short = leb length 64 }
+newBallot length = record { values = replicate (lastReplica + 1) 0; heard = 0; halted = 0; short = leb length maxList }
 
--- a reply of a replica with a value; its first is noted. A number that no replica has changes nothing
-unfoldable pub hearReply : Ballot → ℕ → ℕ → Ballot
-hearReply b replica value =
-    cond (lacks (b .heard) replica)
-    (record { values = set (b .values) replica value; heard = with (b .heard) replica; halted = b .halted; short = b .short }) b
+-- a reply of a replica with a value, noted
+abbrev pub noteReply : Ballot → ℕ → ℕ → Ballot
+noteReply b replica value = record { values = set (b .values) replica value; heard = with (b .heard) replica; halted = b .halted; short = b .short }
 
--- a halt of a replica
-unfoldable pub hearHalt : Ballot → ℕ → Ballot
-hearHalt b replica =
-    cond (isReplica replica) (record { values = b .values; heard = b .heard; halted = with (b .halted) replica; short = b .short }) b
+-- a halt of a replica, noted
+abbrev pub noteHalt : Ballot → ℕ → Ballot
+noteHalt b replica = record { values = b .values; heard = b .heard; halted = with (b .halted) replica; short = b .short }
 
--- the reply asked for: it matches all four
-abbrev pub answers : Query → Message → Bool
-answers q m =
-    eqb (m .kind) reply
-    && eqb (m .group) (q .group) && eqb (m .process) (q .process) && eqb (m .variable) (q .variable) && eqb (m .timestamp .0) (q .timestamp .0)
-
--- a halt that matches group and process
-abbrev pub tellsHalt : Query → Message → Bool
-tellsHalt q m = eqb (m .kind) halt && eqb (m .group) (q .group) && eqb (m .process) (q .process)
-
--- a message: what counts of it is noted
+-- a message: the first reply of a replica that counts is noted, and each halt that counts. A number that no replica has is not
 unfoldable pub hear : ℕ → ℕ → Query → Ballot → Message → Ballot
 hear k n q b m =
-    cond (counts k n q m) (hearReply b (m .replica) (m .value))
-    (cond (halts k n (q .group) (q .process) m) (hearHalt b (m .replica)) b)
+    cond (countsFor k n q m && lacks (b .heard) (m .replica)) (noteReply b (m .replica) (m .value))
+    (cond (countsAsHalt k n (q .group) (q .process) m && isReplica (m .replica)) (noteHalt b (m .replica)) b)
 
 -- the messages of a list, in their order
 unfoldable pub hearAll : ℕ → ℕ → Query → Ballot → List Message → Ballot
@@ -85,7 +73,7 @@ gave b value replica = has (b .heard) replica && eqb (valueOf b replica) value
 
 -- how many replicas gave the value
 unfoldable pub supportIn : Ballot → ℕ → ℕ
-supportIn b value = tally (gave b value) 7
+supportIn b value = tally (gave b value) lastReplica
 
 -- the value of a replica up to the given one that at least k + 1 replicas gave
 unfoldable pub electIn : ℕ → Ballot → ℕ → Answer ℕ
@@ -94,9 +82,19 @@ electIn k b (suc i) =
     cond (has (b .heard) (suc i) && leb (k + 1) (supportIn b (valueOf b (suc i)))) (given (valueOf b (suc i))) (electIn k b i)
 
 -- how many replicas halted
-unfoldable pub haltCountIn : Ballot → ℕ
-haltCountIn b = tally (has (b .halted)) 7
+unfoldable pub haltsIn : Ballot → ℕ
+haltsIn b = tally (has (b .halted)) lastReplica
+
+-- ── what is answered ──
 
 -- questions 1, 2 and 16
-abbrev pub askBallot : {A : Type 0} → ℕ → ℕ → Ballot → Answer A → Answer A
-askBallot k n b rest = ask (unitQuestions k n) (ask ((b .short else 16) ∷ []) rest)
+abbrev pub ballotQuestions : ℕ → ℕ → Ballot → List Question
+ballotQuestions k n b = unitQuestions k n ++ ((b .short else 16) ∷ [])
+
+-- the vote
+unfoldable pub voteOn : ℕ → ℕ → Ballot → Answer ℕ
+voteOn k n b = ask (ballotQuestions k n b) (electIn k b lastReplica)
+
+-- the halt count
+unfoldable pub haltCountOn : ℕ → ℕ → Ballot → Answer ℕ
+haltCountOn k n b = ask (ballotQuestions k n b) (given (haltsIn b))

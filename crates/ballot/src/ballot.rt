@@ -1,37 +1,32 @@
 // A ballot: what was heard so far of each replica.
 ghost use mathlib.Core.Path.{_≡_};
 ghost use mathlib.Core.Bool.{true};
-ghost use Rattle.ballot.specs.Sets.{lacks};
-ghost use Rattle.ballot.specs.Ballot.{newBallot, hearReply, hearHalt, answers, tellsHalt, hear, messageOf};
+ghost use Rattle.rules.specs.Vote.{answers, haltsFor};
+ghost use Rattle.ballot.specs.Sets.{isReplica, lacks};
+ghost use Rattle.ballot.specs.Ballot.{messageOf, newBallot, noteReply, noteHalt, hear};
+use crate::sets::LAST_REPLICA;
 use crate::sets::is_replica;
 use crate::sets::lacks;
 use crate::sets::with;
+use limits::MAX_LIST;
 use record::HALT;
 use record::Message;
 use record::REPLY;
 use record::Timestamp;
 use rules::Query;
 
+// A place for each number up to the last replica's; no replica has number 0. Copies of 8 values are
+// two loads that do not overlap; those of 7 overlap, and wait for each other.
+const PLACES: usize = LAST_REPLICA + 1;
+
 pub struct Ballot {
-    // The value of each replica's first counting reply, at the index that is its number. Copies of
-    // 8 values are two loads that do not overlap; those of 7 overlap, and wait for each other.
-    pub values: [u32; 8],
+    // The value of each replica's first counting reply, at the index that is its number.
+    pub values: [u32; PLACES],
     // Sets of replicas (src/sets.rt): whose counting reply came, and whose counting halt.
     pub heard: u8,
     pub halted: u8,
-    // Question 16: the list has at most 64 messages.
+    // Question 16: the list is no longer than it may be.
     pub short: bool,
-}
-
-pub fn new_ballot(length: usize) -> Ballot
-    ensures { λ r. ⌜ r ≡ newBallot length ⌝ }
-{
-    Ballot {
-        values: [0u32; 8],
-        heard: 0,
-        halted: 0,
-        short: length <= 64,
-    }
 }
 
 // The reply asked for: it matches all four.
@@ -48,67 +43,79 @@ fn answers(q: Query, m: Message) -> bool
 }
 
 // A halt that matches group and process.
-fn tells_halt(q: Query, m: Message) -> bool
-    ensures { λ r. ⌜ r ≡ tellsHalt q m ⌝ }
+fn halts_for(group: u8, process: u8, m: Message) -> bool
+    ensures { λ r. ⌜ r ≡ haltsFor group process m ⌝ }
 {
-    (m.kind == HALT) & (m.group == q.group) & (m.process == q.process)
+    (m.kind == HALT) & (m.group == group) & (m.process == process)
 }
 
-// The first reply of a replica is noted.
-fn hear_reply(b: Ballot, replica: u8, value: u32) -> Ballot
-    requires { ⌜ lacks (b .heard) replica ≡ true ⌝ }
-    ensures { λ r. ⌜ r ≡ hearReply b replica value ⌝ }
-{
-    let i = replica as usize;
-    let mut next = b;
-    next.heard = with(b.heard, i);
-    next.values[i] = value;
-    next
-}
+impl Ballot {
+    // Of a list of the given length; nothing was heard.
+    pub fn new(length: usize) -> Ballot
+        ensures { λ b. ⌜ b ≡ newBallot length ⌝ }
+    {
+        Ballot {
+            values: [0u32; PLACES],
+            heard: 0,
+            halted: 0,
+            short: length <= MAX_LIST,
+        }
+    }
 
-fn hear_halt(b: Ballot, replica: u8) -> Ballot
-    ensures { λ r. ⌜ r ≡ hearHalt b replica ⌝ }
-{
-    if is_replica(replica) {
-        let mut next = b;
-        next.halted = with(b.halted, replica as usize);
-        return next;
+    // The first reply of a replica.
+    fn note_reply(self, replica: u8, value: u32) -> Ballot
+        requires { ⌜ lacks (self .heard) replica ≡ true ⌝ }
+        ensures { λ b. ⌜ b ≡ noteReply self replica value ⌝ }
+    {
+        let i = replica as usize;
+        let mut next = self;
+        next.heard = with(self.heard, i);
+        next.values[i] = value;
+        next
     }
-    b
-}
 
-// One message, handed over by its fields.
-pub fn hear(
-    k: u8,
-    n: u8,
-    q: Query,
-    b: Ballot,
-    kind: u8,
-    group: u8,
-    process: u8,
-    replica: u8,
-    variable: u16,
-    timestamp: u64,
-    value: u32,
-) -> Ballot
-    ensures { λ r. ⌜ r ≡ hear k n q b (messageOf kind group process replica variable timestamp value) ⌝ }
-{
-    let m = Message {
-        kind,
-        group,
-        process,
-        replica,
-        variable,
-        timestamp: Timestamp(timestamp),
-        value,
-    };
-    let passes = record::passes(k, n, m);
-    // What changes nothing goes to the end, where the ballot is not copied.
-    if passes & answers(q, m) & lacks(b.heard, replica) {
-        return hear_reply(b, replica, value);
+    fn note_halt(self, replica: u8) -> Ballot
+        requires { ⌜ isReplica replica ≡ true ⌝ }
+        ensures { λ b. ⌜ b ≡ noteHalt self replica ⌝ }
+    {
+        let mut next = self;
+        next.halted = with(self.halted, replica as usize);
+        next
     }
-    if passes & tells_halt(q, m) {
-        return hear_halt(b, replica);
+
+    // One message, handed over by its fields.
+    pub fn hear(
+        self,
+        k: u8,
+        n: u8,
+        q: Query,
+        kind: u8,
+        group: u8,
+        process: u8,
+        replica: u8,
+        variable: u16,
+        timestamp: Timestamp,
+        value: u32,
+    ) -> Ballot
+        ensures { λ b. ⌜ b ≡ hear k n q self (messageOf kind group process replica variable timestamp value) ⌝ }
+    {
+        let m = Message {
+            kind,
+            group,
+            process,
+            replica,
+            variable,
+            timestamp,
+            value,
+        };
+        let passes = m.passes(k, n);
+        // What changes nothing goes to the end, where the ballot is not copied.
+        if passes & answers(q, m) & lacks(self.heard, replica) {
+            return self.note_reply(replica, value);
+        }
+        if passes & halts_for(q.group, q.process, m) & is_replica(replica) {
+            return self.note_halt(replica);
+        }
+        self
     }
-    b
 }

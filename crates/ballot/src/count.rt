@@ -1,13 +1,13 @@
 // What a ballot says.
 ghost use mathlib.Core.Path.{_≡_};
-ghost use mathlib.Core.Bool.{cond};
-ghost use Rattle.question.specs.Question.{given, worked, outcome};
+ghost use Rattle.question.specs.Question.{given, worked, ask, outcome};
 ghost use Rattle.ballot.specs.Answers.{voteAnswer, haltAnswer};
-ghost use Rattle.ballot.specs.Ballot.{supportIn, electIn, haltCountIn, askBallot};
+ghost use Rattle.ballot.specs.Sets.{lastReplica};
+ghost use Rattle.ballot.specs.Ballot.{supportIn, electIn, haltsIn, ballotQuestions, voteOn, haltCountOn};
 use crate::ballot::Ballot;
+use crate::sets::LAST_REPLICA;
 use crate::sets::has;
 use question::Outcome;
-use question::ask;
 use question::check_unit;
 
 pub enum VoteAnswer {
@@ -21,69 +21,68 @@ pub enum HaltAnswer {
     Refused(u8),
 }
 
-fn one_if(b: bool) -> usize
-    ensures { λ r. ⌜ r ≡ cond b 1 0 ⌝ }
-{
-    if b { 1 } else { 0 }
-}
+// The bits of a set that are replicas'. The highest is none's.
+const REPLICA_BITS: u8 = (1 << LAST_REPLICA) - 1;
 
-// How many replicas gave a value.
-fn support(b: Ballot, value: u32) -> usize
-    ensures { λ r. ⌜ r ≡ supportIn b value ⌝ }
-{
-    let mut count: usize = 0;
-    let mut i: usize = 0;
-    while i < 7 {
-        i += 1;
-        count += one_if(has(b.heard, i) & (b.values[i] == value));
-    }
-    count
-}
-
-// The value that at least k + 1 replicas gave. No two values have so many: any order finds it.
-fn elect(k: u8, b: Ballot) -> VoteAnswer
-    ensures { λ r. ⌜ voteAnswer r ≡ electIn k b 7 ⌝ }
-{
-    let enough = k as usize + 1;
-    let mut i: usize = 7;
-    while 0 < i {
-        let value = b.values[i];
-        if has(b.heard, i) & (enough <= support(b, value)) {
-            return VoteAnswer::Value(value);
+impl Ballot {
+    // How many replicas gave a value.
+    fn support(self, value: u32) -> usize
+        ensures { λ r. ⌜ r ≡ supportIn self value ⌝ }
+    {
+        let mut count: usize = 0;
+        let mut i: usize = 0;
+        while i < LAST_REPLICA {
+            i += 1;
+            count += (has(self.heard, i) & (self.values[i] == value)) as usize;
         }
-        i -= 1;
+        count
     }
-    VoteAnswer::Refused(17)
-}
 
-// How many replicas halted. The highest bit is no replica's.
-fn halt_count(b: Ballot) -> usize
-    ensures { λ r. ⌜ r ≡ haltCountIn b ⌝ }
-{
-    u8::count_ones(b.halted & 127) as usize
-}
-
-// Questions 1, 2 and 16.
-fn check_ballot(k: u8, n: u8, b: Ballot) -> Outcome
-    ensures { λ r. ⌜ outcome r ≡ askBallot k n b (given worked) ⌝ }
-{
-    check_unit(k, n, ask(b.short, 16, Outcome::Done))
-}
-
-pub fn answer_vote(k: u8, n: u8, b: Ballot) -> VoteAnswer
-    ensures { λ r. ⌜ voteAnswer r ≡ askBallot k n b (electIn k b 7) ⌝ }
-{
-    match check_ballot(k, n, b) {
-        Outcome::Done => elect(k, b),
-        Outcome::Refused(number) => VoteAnswer::Refused(number),
+    // The value that at least k + 1 replicas gave. No two values have so many: any order finds it.
+    fn elect(self, k: u8) -> VoteAnswer
+        ensures { λ r. ⌜ voteAnswer r ≡ electIn k self lastReplica ⌝ }
+    {
+        let enough = k as usize + 1;
+        let mut i = LAST_REPLICA;
+        while 0 < i {
+            let value = self.values[i];
+            if has(self.heard, i) & (enough <= self.support(value)) {
+                return VoteAnswer::Value(value);
+            }
+            i -= 1;
+        }
+        VoteAnswer::Refused(17)
     }
-}
 
-pub fn answer_halts(k: u8, n: u8, b: Ballot) -> HaltAnswer
-    ensures { λ r. ⌜ haltAnswer r ≡ askBallot k n b (given (haltCountIn b)) ⌝ }
-{
-    match check_ballot(k, n, b) {
-        Outcome::Done => HaltAnswer::Count(halt_count(b)),
-        Outcome::Refused(number) => HaltAnswer::Refused(number),
+    // How many replicas halted.
+    fn halts(self) -> usize
+        ensures { λ r. ⌜ r ≡ haltsIn self ⌝ }
+    {
+        u8::count_ones(self.halted & REPLICA_BITS) as usize
+    }
+
+    // Questions 1, 2 and 16.
+    fn check(self, k: u8, n: u8) -> Outcome
+        ensures { λ o. ⌜ outcome o ≡ ask (ballotQuestions k n self) (given worked) ⌝ }
+    {
+        check_unit(k, n).ask(self.short, 16)
+    }
+
+    pub fn answer_vote(self, k: u8, n: u8) -> VoteAnswer
+        ensures { λ r. ⌜ voteAnswer r ≡ voteOn k n self ⌝ }
+    {
+        match self.check(k, n) {
+            Outcome::Done => self.elect(k),
+            Outcome::Refused(number) => VoteAnswer::Refused(number),
+        }
+    }
+
+    pub fn answer_halts(self, k: u8, n: u8) -> HaltAnswer
+        ensures { λ r. ⌜ haltAnswer r ≡ haltCountOn k n self ⌝ }
+    {
+        match self.check(k, n) {
+            Outcome::Done => HaltAnswer::Count(self.halts()),
+            Outcome::Refused(number) => HaltAnswer::Refused(number),
+        }
     }
 }

@@ -5,9 +5,5 @@ mod count;
 mod sets;
 
 pub use ballot::Ballot;
-pub use ballot::hear;
-pub use ballot::new_ballot;
 pub use count::HaltAnswer;
 pub use count::VoteAnswer;
-pub use count::answer_halts;
-pub use count::answer_vote;

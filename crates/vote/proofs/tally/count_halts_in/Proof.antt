@@ -1,7 +1,7 @@
 use mathlib.Core.Path.{_∙_}
 use lib.ListN.{take}
 use Rattle.ballot.specs.Ballot.{haltQuery}
-use Rattle.ballot.proofs.Answers.{ballot-halt-count}
+use Rattle.ballot.proofs.Answers.{halt-count-on}
 use borrow.Author.Needs.{needs}
 use Rattle.vote.proofs.tally.count_halts_in.Statement.{statement}
 use Rattle.vote.proofs.tally.count_halts_in.Tie as tie
@@ -20,7 +20,7 @@ returns c =
     let a = c .before .before .before .args in
     c .answer-halts .ensures
     ∙ rw (c .before .tally-in .ensures, c .before .before .halt-query .ensures)
-    (ballot-halt-count (a .k) (a .n) (haltQuery (a .group) (a .process)) (take (a .count) (a .list)))
+    (halt-count-on (a .k) (a .n) (haltQuery (a .group) (a .process)) (take (a .count) (a .list)))
 
 pub count-halts-in-spec : {M : Type 1} → statement M
 count-halts-in-spec =

@@ -1,12 +1,12 @@
-use borrow.Author.Tests.{le-leb, lt-leb}
+use native.Mathlib.Omega.{arith}
 use Rattle.vote.proofs.tally.listed.Statement.{statement}
 use Rattle.vote.proofs.tally.listed.Tie as tie
 
 returns : tie.Need-returns
-returns c = rw (le-leb _ _ (c .if1 .taken))
+returns c = omega (arith, c .if1 .taken)
 
 returns-2 : tie.Need-returns-2
-returns-2 c = rw (lt-leb _ _ (c .if1 .left))
+returns-2 c = omega (arith, c .if1 .left)
 
 pub listed-spec : {M : Type 1} → statement M
 listed-spec = tie.close (tie.spec returns returns-2)

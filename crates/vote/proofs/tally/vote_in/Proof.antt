@@ -1,6 +1,7 @@
-use mathlib.Core.Path.{_∙_}
+use mathlib.Core.Path.{_∙_, ap}
 use lib.ListN.{take}
-use Rattle.ballot.proofs.Answers.{ballot-vote}
+use Rattle.ballot.specs.Ballot.{voteOn}
+use Rattle.ballot.proofs.Answers.{vote-on}
 use borrow.Author.Needs.{needs}
 use Rattle.vote.proofs.tally.vote_in.Statement.{statement}
 use Rattle.vote.proofs.tally.vote_in.Tie as tie
@@ -14,7 +15,7 @@ answer-vote-requires c κs = search needs
 returns : tie.Need-returns
 returns c =
     let a = c .before .before .args in
-    c .answer-vote .ensures ∙ rw (c .before .tally-in .ensures) (ballot-vote (a .k) (a .n) (a .q) (take (a .count) (a .list)))
+    c .answer-vote .ensures ∙ ap (voteOn (a .k) (a .n)) (c .before .tally-in .ensures) ∙ vote-on (a .k) (a .n) (a .q) (take (a .count) (a .list))
 
 pub vote-in-spec : {M : Type 1} → statement M
 vote-in-spec = tie.close (tie.spec tally-in-requires answer-vote-requires returns)

@@ -1,4 +1,5 @@
 -- The loop's invariant: the election among the first i replicas is that among all, for none past i wins.
+use Rattle.ballot.specs.Sets.{lastReplica}
 use Rattle.ballot.specs.Ballot.{electIn}
 use mathlib.Core.Path.{sym, _∙_}
 use native.Mathlib.Omega.{arith}
@@ -6,14 +7,14 @@ use Rattle.ballot.proofs.Answers.{elect-hit, elect-miss, elect-end}
 use Prim.Native.Nat.{_≤_}
 use mathlib.Core.Path.{_≡_}
 use borrow.Author.Needs.{needs}
-use Rattle.ballot.proofs.count.elect.Statement.{statement}
-use Rattle.ballot.proofs.count.elect.Tie as tie
+use Rattle.ballot.proofs.ballot.Ballot.elect.Statement.{statement}
+use Rattle.ballot.proofs.ballot.Ballot.elect.Tie as tie
 
 abbrev Inv-loop : tie.InvT-loop
-Inv-loop k b enough i₀ i = (i ≤ 7) × (electIn k b i ≡ electIn k b 7)
+Inv-loop k self enough i₀ i = (i ≤ lastReplica) × (electIn k self i ≡ electIn k self lastReplica)
 
 abbrev μ-loop : tie.MeasureT-loop
-μ-loop k b enough i₀ i = i
+μ-loop k self enough i₀ i = i
 
 add-enough : tie.Need-add-enough Inv-loop μ-loop
 add-enough c = search needs
@@ -37,7 +38,7 @@ returns : tie.Need-returns Inv-loop μ-loop
 returns c =
     let b = c .before .before .before .before .before in
     let wins = rw (c .before .support .ensures, c .before .before .has .ensures) at (c .if1 .taken) in
-    sym (elect-hit (b .before .args .k) (b .before .args .t2) (b .loop .i) (omega arith) wins) ∙ b .loop .inv .1
+    sym (elect-hit (b .before .args .k) (b .before .args .t1) (b .loop .i) (omega arith) wins) ∙ b .loop .inv .1
 
 sub-i : tie.Need-sub-i Inv-loop μ-loop
 sub-i c = search needs
@@ -49,12 +50,12 @@ loop-again : tie.Need-loop-again Inv-loop μ-loop
 loop-again c =
     let b = c .before .before .before .before .before in
     let loses = rw (c .before .support .ensures, c .before .before .has .ensures) at (c .if1 .left) in
-    (search needs, sym (elect-miss (b .before .args .k) (b .before .args .t2) (b .loop .i) (omega arith) loses) ∙ b .loop .inv .1)
+    (search needs, sym (elect-miss (b .before .args .k) (b .before .args .t1) (b .loop .i) (omega arith) loses) ∙ b .loop .inv .1)
 
 returns-2 : tie.Need-returns-2 Inv-loop μ-loop
 returns-2 c =
     let b = c .before in
-    sym (elect-end (b .before .args .k) (b .before .args .t2) (b .loop .i) (omega arith)) ∙ b .loop .inv .1
+    sym (elect-end (b .before .args .k) (b .before .args .t1) (b .loop .i) (omega arith)) ∙ b .loop .inv .1
 
 pub elect-spec : {M : Type 1} → statement M
 elect-spec =
