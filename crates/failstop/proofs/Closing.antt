@@ -24,9 +24,9 @@ use Rattle.laws.proofs.Keeps.{visits-keep}
 use Rattle.laws.proofs.Settles.{visits-settle}
 use Rattle.laws.proofs.Accepted.{Made}
 use Rattle.laws.proofs.Calls.{call-step}
-use Rattle.failstop.proofs.Simulation.{mine}
-use Rattle.failstop.proofs.Arrivals.{call-pending}
-use Rattle.failstop.proofs.Runs.{Underway, lent-first, underway-next, after-step}
+use Rattle.failstop.proofs.Simulation.{mine, batch-mine, mine-keeps}
+use Rattle.failstop.proofs.Arrivals.{call-between}
+use Rattle.failstop.proofs.Runs.{Underway, underway-next, after-step}
 
 -- a batch of which every request arrived more than δ ago is stable
 all-stable : (delta : ℕ) (now : LocalTime) (l : List Pending) → 0 < length l → ((p : Pending) → List·Memᴰ p l → p .arrival .0 + delta < now .0)
@@ -46,18 +46,13 @@ module _ (u : Settings) (me : ℕ) (ok : Made u me) where
       left : List Pending
       left = visits (u .groups) now s .state .pending
 
-      was : (q : Pending) → List·Memᴰ q (mine u left) → List·Memᴰ q (mine u (s .pending))
-      was q j =
-          let k = keep-in (ofGroup (u .owner)) left j in
-          in-keep (ofGroup (u .owner)) (s .pending) (visits-keep (u .groups) now s .pending q (k .0)) (k .1)
-
       -- were one left, its group would have a stable batch
       stable : (p : Pending) → List·Memᴰ p (mine u left) → isStable (u .delta) now (batchOf (u .owner) left) ≡ true
       stable p i =
           let k = keep-in (ofGroup (u .owner)) left i in
           let some = batch-some (u .owner) left p (k .0) (eqb-true (p .request .group) (u .owner) (k .1)) in
           all-stable (u .delta) now (batchOf (u .owner) left) some
-          (λ q j. old q (was q (keep-in (λ (x : Pending). stamped (groupTimestamp (u .owner) left) (x .request)) (mine u left) j .0)))
+          (λ q j. old q (mine-keeps u (visits-keep (u .groups) now s) q (batch-mine u left j)))
 
       settled : isStable (u .delta) now (batchOf (u .owner) left) ≡ false
       settled =
@@ -74,7 +69,7 @@ module _ (u : Settings) (me : ℕ) (ok : Made u me) where
         (λ (j : List·Memᴰ p (mine u (call s c .state .pending))). ⊎-elim
         (λ (k : List·Memᴰ p (mine u (s .pending))). inl k)
         (λ (k : List·Memᴰ p (arrivalOf s c)). inr (Memᴰ·append-left (arrivals (call s c .state) calls) k))
-        (call-pending u me ok s c (w .sound) (lent-first w) p j))
+        (call-between u me ok (w .going) .pending p j))
         (λ (j : List·Memᴰ p (arrivals (call s c .state) calls)). inr (Memᴰ·append-right (arrivalOf s c) j))
         (run-pending calls (call s c .state) (underway-next u me ok all s c calls w) p i)
 
@@ -90,17 +85,17 @@ module _ (u : Settings) (me : ℕ) (ok : Made u me) where
         both = and-eq-true-iff (isGiven (step s now output)) (every past all) .0 e
 
         old : (p : Pending) → List·Memᴰ p all → p .arrival .0 + u .delta < now .0
-        old p i = rw (w .sound .settings) at (ltb-true (p .arrival .0 + s .settings .delta) (now .0) (every-in past all (both .1) p i))
+        old p i = rw (w .going .sound .settings) at (ltb-true (p .arrival .0 + s .settings .delta) (now .0) (every-in past all (both .1) p i))
 
         go : (a : Answer Stepped) → step s now output ≡ a → mine u (run (call s (turn now output) .state) calls .state .pending) ≡ []
         go (refused number) f = true-not-false (isGiven (step s now output)) (both .0) (ap isGiven f)
         go (given d) f =
             let c = turn now output in
             let next = underway-next u me ok all s c calls w in
-            let same = call-step u me ok s now output (w .sound) f in
+            let same = call-step u me ok s now output (w .going .sound) f in
             let gone : mine u (call s c .state .pending) ≡ [] =
             ap (λ (x : Effect State). mine u (x .state .pending)) same
-            ∙ visits-empty now (atTime now s) (w .sound .settings) (λ p i. old p (w .pending p i)) in
+            ∙ visits-empty now (atTime now s) (w .going .sound .settings) (λ p i. old p (w .pending p i)) in
             no-member _ (λ p i. ⊎-elim
             (λ (j : List·Memᴰ p (mine u (call s c .state .pending))). List·Memᴰ·not-nil (subst (List·Memᴰ p) gone j))
             (λ (j : List·Memᴰ p (arrivals (call s c .state) calls)). omega (arith, old p (next .coming p j), after-step u me ok all s c calls w now same p j))

@@ -14,15 +14,13 @@ use Rattle.rules.specs.declared.Pending.{Pending}
 use Rattle.laws.proofs.Lists.{no-member}
 use Rattle.laws.proofs.Machine.{machine-from-new, machine-none}
 use Rattle.laws.proofs.Accepted.{Made}
-use Rattle.laws.proofs.Sound.{new-sound}
-use Rattle.laws.proofs.Calls.{AllLent}
 use Rattle.failstop.specs.Demand3.{toGroup}
 use Rattle.failstop.proofs.Simulation.{signed, mine}
-use Rattle.failstop.proofs.Arrivals.{arrivals-loose}
+use Rattle.failstop.proofs.Arrivals.{Going, arrivals-loose}
 use Rattle.failstop.proofs.Runs.{Underway, run-matched}
 use Rattle.failstop.proofs.Closing.{run-pending, run-empty}
 
-module _ (u : Settings) (me : ℕ) (ok : Made u me) (calls : List Call) (lent : AllLent calls) where
+module _ (u : Settings) (me : ℕ) (ok : Made u me) (calls : List Call) (going : Going u me (newState u me) calls) where
   abbrev new : State
   new = newState u me
 
@@ -33,7 +31,7 @@ module _ (u : Settings) (me : ℕ) (ok : Made u me) (calls : List Call) (lent : 
   done = run (newState u me) calls
 
   start : Underway u me all new calls
-  start = record { sound = new-sound u me; lent = lent; pending = λ p i. absurd (List·Memᴰ·not-nil i); coming = λ p i. i }
+  start = record { going = going; pending = λ p i. absurd (List·Memᴰ·not-nil i); coming = λ p i. i }
 
   nothing-left : Closed new calls → mine u (done .state .pending) ≡ []
   nothing-left (inl e) = run-empty u me ok all calls new start e
@@ -45,7 +43,7 @@ module _ (u : Settings) (me : ℕ) (ok : Made u me) (calls : List Call) (lent : 
   pub run-is-machine : ArrivalRule (u .delta) all → Closed new calls
       → record { state = done .state .store; sent = toGroup (u .owner) (done .sent) } ≡ signed me (machine (u .k) (u .owner) (requestsOf all))
   run-is-machine rule closed =
-      let loose = arrivals-loose u me ok calls new (new-sound u me) lent rule in
+      let loose = arrivals-loose u me ok calls new going rule in
       let still = machine-none (u .k) (u .owner) (done .state .store) in
       sym (ap (signed me) (machine-from-new (u .k) (u .owner) (requestsOf all)) ∙ run-matched u me ok all loose calls new start
       ∙ rw (nothing-left closed, still, append-nil (toGroup (u .owner) (done .sent))))

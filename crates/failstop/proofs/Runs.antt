@@ -18,35 +18,29 @@ use Rattle.question.proofs.Tests.{case}
 use Rattle.laws.proofs.Lists.{keep-append, map-in}
 use Rattle.laws.proofs.Keeps.{visits-keep}
 use Rattle.laws.proofs.Accepted.{Made}
-use Rattle.laws.proofs.Sound.{Sound}
-use Rattle.laws.proofs.Calls.{LentTo, AllLent, Act, nothing, arrives, steps, call-act, call-sound}
+use Rattle.laws.proofs.Calls.{Act, nothing, arrives, steps}
 use Rattle.failstop.specs.Demand3.{toGroup}
 use Rattle.failstop.proofs.Simulation.{ahead, ahead-then, mine, Apart, expected, Ready, visits-simulate}
-use Rattle.failstop.proofs.Arrivals.{LooseRule, arrivals-late, call-pending}
+use Rattle.failstop.proofs.Arrivals.{Going, first-act, going-next, call-between, LooseRule, arrivals-later}
 
 requests-append : (a b : List Pending) → requestsOf (a ++ b) ≡ requestsOf a ++ requestsOf b
 requests-append a b = map-append (λ (p : Pending). p .request) a b
 
 -- where a run stands: all that is pending or still to arrive is among the arrivals of the whole run
 pub record Underway (u : Settings) (me : ℕ) (all : List Pending) (s : State) (calls : List Call) : Type 0 where
-  pub sound : Sound u me s
-  pub lent : AllLent calls
+  pub going : Going u me s calls
   pub pending : (p : Pending) → List·Memᴰ p (mine u (s .pending)) → List·Memᴰ p all
   pub coming : (p : Pending) → List·Memᴰ p (arrivals s calls) → List·Memᴰ p all
-
-pub lent-first : {u : Settings} {me : ℕ} {all : List Pending} {s : State} {c : Call} {calls : List Call} → Underway u me all s (c ∷ calls) → LentTo c
-lent-first {c = c} w = w .lent c (List·Memᴰ·head refl)
 
 module _ (u : Settings) (me : ℕ) (ok : Made u me) (all : List Pending) where
   pub underway-next : (s : State) (c : Call) (calls : List Call) → Underway u me all s (c ∷ calls) → Underway u me all (call s c .state) calls
   unfolding arrivals
   underway-next s c calls w = record {
-    sound = call-sound u me ok s c (w .sound) (lent-first w);
-    lent = λ x k. w .lent x (List·Memᴰ·tail k);
+    going = going-next u me ok (w .going);
     pending = λ p i. ⊎-elim
         (λ (j : List·Memᴰ p (mine u (s .pending))). w .pending p j)
         (λ (j : List·Memᴰ p (arrivalOf s c)). w .coming p (Memᴰ·append-left (arrivals (call s c .state) calls) j))
-        (call-pending u me ok s c (w .sound) (lent-first w) p i);
+        (call-between u me ok (w .going) .pending p i);
     coming = λ p i. w .coming p (Memᴰ·append-right (arrivalOf s c) i);
   }
 
@@ -58,7 +52,7 @@ module _ (u : Settings) (me : ℕ) (ok : Made u me) (all : List Pending) where
       let next = underway-next s c calls w in
       let last : call s c .state .last .0 ≡ now .0 =
       ap (λ (x : Effect State). x .state .last .0) e ∙ ap (λ (x : LocalTime). x .0) (visits-keep (u .groups) now (atTime now s) .last) in
-      omega (arith, arrivals-late u me ok calls (call s c .state) (next .sound) (next .lent) p i)
+      omega (arith, arrivals-later u me ok calls (call s c .state) (next .going) p i .0)
 
   -- ── one call ──
 
@@ -67,10 +61,10 @@ module _ (u : Settings) (me : ℕ) (ok : Made u me) (all : List Pending) where
       expected u me (requestsOf (mine u (s .pending) ++ (arrivalOf s c ++ coming))) (s .store)
       ≡ ahead (toGroup (u .owner) (call s c .sent)) (expected u me (requestsOf (mine u (call s c .state .pending) ++ coming)) (call s c .state .store))
 
-  call-matched : (s : State) (c : Call) (coming : List Pending) → Sound u me s → LentTo c
+  call-matched : (s : State) (c : Call) (calls : List Call) (coming : List Pending) → Going u me s (c ∷ calls)
       → ((now : LocalTime) → call s c ≡ visits (u .groups) now (atTime now s) → Apart u now (requestsOf coming) (s .pending))
       → CallMatched s c coming
-  call-matched s c coming h lent apart = go (call-act u me ok s c h lent)
+  call-matched s c calls coming g apart = go (first-act u me ok g)
     where
       go : Act u s c → CallMatched s c coming
       go (nothing e a) = rw (e, a)
@@ -79,7 +73,8 @@ module _ (u : Settings) (me : ℕ) (ok : Made u me) (all : List Pending) where
           rw (e, a, keep-append (ofGroup (u .owner)) (s .pending) new, ← append-assoc (mine u (s .pending)) (mine u new) coming)
       go (steps now late e a) =
           let left = visits (u .groups) now (atTime now s) .state .pending in
-          let ready : Ready u me now (requestsOf coming) (atTime now s) = record { settings = h .settings; number = h .number; apart = apart now e } in
+          let ready : Ready u me now (requestsOf coming) (atTime now s) =
+          record { settings = g .sound .settings; number = g .sound .number; apart = apart now e } in
           rw (e, a, requests-append (mine u (s .pending)) coming, requests-append (mine u left) coming)
           (visits-simulate u me now (requestsOf coming) (u .groups) (atTime now s) ready .1)
 
@@ -114,5 +109,5 @@ module _ (u : Settings) (me : ℕ) (ok : Made u me) (all : List Pending) where
         let t = call s c .state in
         let last = run t calls in
         ahead-then (u .owner) (call s c .sent) (last .sent) (expected u me (requestsOf (mine u (last .state .pending))) (last .state .store))
-        (call-matched s c (arrivals t calls) (w .sound) (lent-first w) (step-apart s c calls w))
+        (call-matched s c calls (arrivals t calls) (w .going) (step-apart s c calls w))
         (run-matched calls t (underway-next s c calls w))

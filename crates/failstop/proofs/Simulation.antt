@@ -3,27 +3,28 @@
 use Prim.Native.Nat.{ℕ, _+_, _<_}
 use mathlib.Core.Path.{_≡_, refl, sym, _∙_, ap}
 use mathlib.Core.Bool.{true, false, not, _&&_}
-use mathlib.Core.List.{List, [], _∷_, _++_, map, map-append, List·Memᴰ, Memᴰ·map, append-assoc}
+use mathlib.Core.List.{List, [], _∷_, _++_, map, map-map, map-append, List·Memᴰ, Memᴰ·map, append-assoc}
 use native.Mathlib.Omega.{arith}
 use lib.Dec.{eqb}
-use borrow.Author.Tests.{eqb-true, eq-eqb}
+use borrow.Author.Tests.{eqb-true, eqb-false, eq-eqb}
 use Rattle.record.specs.declared.clock.Timestamp.{Timestamp}
 use Rattle.record.specs.declared.clock.LocalTime.{LocalTime}
 use Rattle.record.specs.declared.request.Request.{Request}
 use Rattle.record.specs.declared.message.Message.{Message}
 use Rattle.rules.specs.Lists.{keep, upTo}
-use Rattle.rules.specs.Batch.{Store, Effect, follow, failed, allReads, unanimous, replyTo, haltTo, handle}
+use Rattle.rules.specs.Batch.{Store, Effect, follow, failed, Verdict, reads, agreed, dissent, verdictOf, replyTo, haltTo, carryOut, handle}
 use Rattle.rules.specs.declared.Settings.{Settings}
-use Rattle.rules.specs.Replica.{State, stamped, requestsOf, ofGroup, groupTimestamp, batchOf, others, isStable, handleBatch, visits}
-use Rattle.rules.specs.Machine.{nobody, react, signedBy}
+use Rattle.rules.specs.Replica.{State, stamped, requestsOf, ofGroup, groupTimestamp, batchOf, others, isStable, inBatch, handleBatch, visits}
+use Rattle.rules.specs.Machine.{nobody, decide, react, signedBy}
 use Rattle.rules.specs.declared.Pending.{Pending}
 use Rattle.question.proofs.Tests.{case}
 use Rattle.laws.proofs.Lists.{keep-in, in-keep, keep-none, keep-all, keep-append, map-keep, map-in}
-use Rattle.laws.proofs.Least.{stable-hit, batchAt-in, others-other}
+use Rattle.laws.proofs.Least.{stable-hit, batchAt-in, batchAt-group, others-other}
 use Rattle.laws.proofs.Visits.{visits-all}
 use Rattle.laws.proofs.Keeps.{Keeps, batch-keeps}
 use Rattle.laws.proofs.Owes.{handle-sent}
-use Rattle.laws.proofs.Occurring.{firstOf, restOf}
+use Rattle.laws.proofs.Verdict.{Handled, answered, performed, failing, passed, handle-view}
+use Rattle.laws.proofs.Occurring.{leastBatch, restOf}
 use Rattle.laws.proofs.Machine.{machineFrom, machine-later}
 use Rattle.failstop.specs.Demand3.{toGroup}
 
@@ -49,38 +50,45 @@ signed-ahead me a e = rw (map-append (signedBy me) a (e .sent))
 
 -- ── one batch ──
 
-sign-replies : (s : Store) (me : ℕ) (batch : List Request) → map (replyTo s me) batch ≡ map (signedBy me) (map (replyTo s nobody) batch)
-sign-replies s me [] = refl
-sign-replies s me (r ∷ batch) = ap (λ l. replyTo s me r ∷ l) (sign-replies s me batch)
-
-sign-halts : (group me : ℕ) (t : Timestamp) (l : List ℕ) → map (haltTo group me t) l ≡ map (signedBy me) (map (haltTo group nobody t) l)
-sign-halts group me t [] = refl
-sign-halts group me t (p ∷ l) = ap (λ x. haltTo group me t p ∷ x) (sign-halts group me t l)
-
 -- a replica handles the owner's batch as the machine does
 handle-owner : (u : Settings) (me : ℕ) (t : Timestamp) (batch : List Request) (s : Store)
     → handle u me (u .owner) t batch s ≡ signed me (react (u .k) (u .owner) t batch s)
 unfolding handle react
-handle-owner u me t batch s =
-    case (allReads batch) (λ a. rw (a, sign-replies s me batch))
-    (λ a. case (failed s)
-    (λ f. case (unanimous (u .k) batch) (λ n. rw (a, f, n, own)) (λ n. rw (a, f, n, own)))
-    (λ f. case (unanimous (u .k) batch) (λ n. rw (a, f, n, own)) (λ n. rw (a, f, n, own, sign-halts (u .owner) me t (upTo (u .k + 1))))))
+handle-owner u me t batch s = go (verdictOf (u .k) batch)
   where
     own : eqb (u .owner) (u .owner) ≡ true
     own = eq-eqb (u .owner) (u .owner) refl
 
+    go : (v : Verdict) → carryOut u me (u .owner) t batch s v ≡ signed me (decide (u .k) (u .owner) t batch s v)
+    go reads = rw (map-map (signedBy me) (replyTo s nobody) batch)
+    go (agreed r) = case (failed s) (λ f. rw (own, f)) (λ f. rw (own, f))
+    go dissent = case (failed s) (λ f. rw (own, f)) (λ f. rw (own, f, map-map (signedBy me) (haltTo (u .owner) nobody t) (upTo (u .k + 1))))
+
 -- another group's batch leaves the store
 handle-guest : (u : Settings) (me group : ℕ) (t : Timestamp) (batch : List Request) (s : Store) → eqb group (u .owner) ≡ false
     → handle u me group t batch s .state ≡ s
-unfolding handle
-handle-guest u me group t batch s e =
-    case (allReads batch) (λ a. rw a) (λ a. case (unanimous (u .k) batch) (λ b. rw (a, b, e)) (λ b. rw (a, b, e)))
+handle-guest u me group t batch s e = go (handle-view u me group t batch s)
+  where
+    go : {d : Effect Store} → Handled (u .k) (u .owner) me group t batch s d → d .state ≡ s
+    go (answered a) = refl
+    go (performed a o f) = absurd (eqb-false group (u .owner) e o)
+    go (failing o f) = absurd (eqb-false group (u .owner) e o)
+    go passed = refl
 
--- what stays of the group
+-- ── the owner's pending requests ──
+
+abbrev pub mine : Settings → List Pending → List Pending
+mine u pending = keep (ofGroup (u .owner)) pending
+
+-- its batch is among them
+pub batch-mine : (u : Settings) (pending : List Pending) {p : Pending} → List·Memᴰ p (batchOf (u .owner) pending) → List·Memᴰ p (mine u pending)
+batch-mine u pending {p} i =
+    let t = groupTimestamp (u .owner) pending in
+    keep-in (λ (q : Pending). stamped t (q .request)) (mine u pending) (rw (batchAt-group (u .owner) t pending) at i) .0
+
+-- those of the batch's timestamp are taken off
 mine-others : (group : ℕ) (t : Timestamp) (l : List Pending)
-    → keep (ofGroup group) (keep (λ p. not (ofGroup group p && stamped t (p .request))) l)
-    ≡ keep (λ p. not (stamped t (p .request))) (keep (ofGroup group) l)
+    → keep (ofGroup group) (keep (λ p. not (inBatch group t p)) l) ≡ keep (λ p. not (stamped t (p .request))) (keep (ofGroup group) l)
 mine-others group t [] = refl
 mine-others group t (p ∷ l) =
     let h = mine-others group t l in
@@ -88,11 +96,13 @@ mine-others group t (p ∷ l) =
     (λ a. case (stamped t (p .request)) (λ b. rw (a, b) h) (λ b. rw (a, b, a, h)))
     (λ a. rw (a, a) h)
 
--- ── a step ──
+-- where nothing new is pending, nothing new is among them
+pub mine-keeps : (u : Settings) {s t : State} → Keeps s t → (p : Pending) → List·Memᴰ p (mine u (t .pending)) → List·Memᴰ p (mine u (s .pending))
+mine-keeps u {s} {t} keeps p i =
+    let a = keep-in (ofGroup (u .owner)) (t .pending) i in
+    in-keep (ofGroup (u .owner)) (s .pending) (keeps .pending p (a .0)) (a .1)
 
--- the owner's pending requests
-abbrev pub mine : Settings → List Pending → List Pending
-mine u pending = keep (ofGroup (u .owner)) pending
+-- ── a step ──
 
 -- requests still to come have greater timestamps than one that arrived more than δ ago
 abbrev pub Apart : Settings → LocalTime → List Request → List Pending → Type 0
@@ -116,13 +126,12 @@ module _ (u : Settings) (me : ℕ) where
 
   -- the messages of a batch have its group
   batch-group : (group : ℕ) (pending : List Pending) (s : Store) (m : Message) → List·Memᴰ m (handled group pending s .sent) → m .group ≡ group
-  batch-group group pending s m i = handle-sent u me group (groupTimestamp group pending) (requestsOf (batchOf group pending)) s of m i .0
-    where
-      of : (r : Request) → List·Memᴰ r (requestsOf (batchOf group pending)) → (r .group ≡ group) × (r .timestamp .0 ≡ groupTimestamp group pending .0)
-      of r j =
-          let a = map-in (λ (p : Pending). p .request) (batchOf group pending) j in
-          let b = batchAt-in group (groupTimestamp group pending) pending (a .1) in
-          (ap (λ (x : Request). x .group) (a .2) ∙ b .1, ap (λ (x : Request). x .timestamp .0) (a .2) ∙ b .2)
+  batch-group group pending s m i =
+      let t = groupTimestamp group pending in
+      handle-sent u me group t (requestsOf (batchOf group pending)) s (λ r j.
+      let a = map-in (λ (p : Pending). p .request) (batchOf group pending) j in
+      let b = batchAt-in group t pending (a .1) in
+      rw (a .2) (b .1, b .2)) m i .0
 
   owner-matched : (now : LocalTime) (coming : List Request) (pending : List Pending) (s : Store) → Apart u now coming pending
       → isStable (u .delta) now (batchOf (u .owner) pending) ≡ true
@@ -140,14 +149,14 @@ module _ (u : Settings) (me : ℕ) where
       bag = requestsOf (mine u pending)
 
       first : Effect Store
-      first = react (u .k) (u .owner) t (firstOf bag) s
+      first = react (u .k) (u .owner) t (leastBatch bag) s
 
       -- a request of the batch that arrived more than δ ago
       old : (p : Pending) × List·Memᴰ p (batchOf (u .owner) pending) × (p .arrival .0 + u .delta < now .0)
       old = stable-hit (u .delta) now (batchOf (u .owner) pending) stable
 
       held : List·Memᴰ (old .0) (mine u pending)
-      held = keep-in (λ (p : Pending). stamped t (p .request)) (mine u pending) (old .1) .0
+      held = batch-mine u pending (old .1)
 
       hit : List·Memᴰ (old .0 .request) bag
       hit = Memᴰ·map (λ (p : Pending). p .request) held
@@ -157,7 +166,8 @@ module _ (u : Settings) (me : ℕ) where
 
       same : signed me first ≡ handled (u .owner) pending s
       same =
-          ap (λ (l : List Request). signed me (react (u .k) (u .owner) t l s)) (map-keep (λ (p : Pending). p .request) (stamped t) (mine u pending))
+          ap (λ (l : List Request). signed me (react (u .k) (u .owner) t l s))
+          (map-keep (λ (p : Pending). p .request) (stamped t) (mine u pending) ∙ ap requestsOf (sym (batchAt-group (u .owner) t pending)))
           ∙ sym (handle-owner u me t (requestsOf (batchOf (u .owner) pending)) s)
 
       rest : restOf bag ≡ requestsOf (mine u (others (u .owner) pending))
@@ -202,16 +212,8 @@ module _ (u : Settings) (me : ℕ) where
     batch-simulates group s stable h =
         (ready, rw (h .settings, h .number) (case (eqb group (u .owner)) own (guest-matched group coming (s .pending) (s .store))))
       where
-        keeps : Keeps s (handleBatch group s .state)
-        keeps = batch-keeps group s
-
         ready : Ready (handleBatch group s .state)
-        ready = record {
-          settings = h .settings;
-          number = h .number;
-          apart = λ p i. let a = keep-in (ofGroup (u .owner)) (others group (s .pending)) i in
-              h .apart p (in-keep (ofGroup (u .owner)) (s .pending) (keeps .pending p (a .0)) (a .1));
-        }
+        ready = record { settings = h .settings; number = h .number; apart = λ p i. h .apart p (mine-keeps u (batch-keeps group s) p i) }
 
         own : eqb group (u .owner) ≡ true
             → let done = handled group (s .pending) (s .store) in
