@@ -9,7 +9,7 @@ use native.Mathlib.Omega.{arith}
 use borrow.Author.Tests.{eqb-true, eqb-false}
 use Rattle.record.specs.declared.request.Request.{Request}
 use Rattle.rules.specs.declared.Settings.{Settings}
-use Rattle.rules.specs.Replica.{State, stamped, ofGroup, visits, atTime}
+use Rattle.rules.specs.Replica.{State, stamped, ofGroup, atTime}
 use Rattle.rules.specs.Run.{Call, call, run, arrivalOf, arrivals}
 use Rattle.failstop.specs.Suppose.{firstArrival, ArrivalRule}
 use Rattle.rules.specs.declared.Pending.{Pending}

@@ -13,12 +13,12 @@ use Rattle.record.specs.declared.clock.LocalTime.{LocalTime}
 use Rattle.rules.specs.Lists.{every}
 use Rattle.rules.specs.Batch.{Effect}
 use Rattle.rules.specs.declared.Settings.{Settings}
-use Rattle.rules.specs.Replica.{State, Stepped, stamped, ofGroup, groupTimestamp, batchOf, earliest, isStable, visits, atTime, step}
+use Rattle.rules.specs.Replica.{State, Stepped, ofGroup, batchOf, earliest, isStable, visits, atTime, step}
 use Rattle.rules.specs.Run.{Call, delivery, turn, call, run, arrivalOf, arrivals}
 use Rattle.failstop.specs.Suppose.{closesNow, closes}
 use Rattle.rules.specs.declared.Pending.{Pending}
 use Rattle.question.proofs.Tests.{case, true-not-false}
-use Rattle.laws.proofs.Lists.{no-member, keep-in, in-keep, every-in}
+use Rattle.laws.proofs.Lists.{no-member, keep-in, every-in}
 use Rattle.laws.proofs.Least.{earliest-hit, batch-some}
 use Rattle.laws.proofs.Keeps.{visits-keep}
 use Rattle.laws.proofs.Settles.{visits-settle}
