@@ -3,8 +3,8 @@
 use Prim.Native.Nat.{ℕ, _+_, _≤_}
 use mathlib.Core.Path.{_≡_, refl, sym, ap}
 use mathlib.Core.Logic.{_⊎_, inl, inr, ⊎-elim}
-use mathlib.Core.Bool.{true, false}
-use mathlib.Core.List.{List, [], _∷_, _++_, List·Memᴰ, List·Memᴰ·head, List·Memᴰ·tail, List·Memᴰ·cases-cons, List·Memᴰ·not-nil, List·Memᴰ·append-cases, List·Memᴰ·eq-of-singleton}
+use mathlib.Core.Bool.{false}
+use mathlib.Core.List.{List, [], _∷_, _++_, List·Memᴰ, List·Memᴰ·head, List·Memᴰ·tail, List·Memᴰ·cases-cons, List·Memᴰ·not-nil, List·Memᴰ·append-cases, List·Memᴰ·eq-of-singleton, Memᴰ·append-left, Memᴰ·append-right}
 use native.Mathlib.Omega.{arith}
 use borrow.Author.Tests.{eqb-true, eqb-false}
 use Rattle.record.specs.declared.request.Request.{Request}
@@ -21,6 +21,64 @@ use Rattle.laws.proofs.Records.{AllSendable}
 use Rattle.laws.proofs.Sound.{Sound, visits-soundly}
 use Rattle.laws.proofs.Calls.{AllLent, Act, nothing, arrives, steps, call-act, call-sound}
 use Rattle.failstop.proofs.Simulation.{mine, mine-keeps}
+
+-- ── one call ──
+
+-- an owner's request that passed the questions
+pub record Owned (u : Settings) (r : Request) : Type 0 where
+  pub owner : r .group ≡ u .owner
+  pub proper : Proper (u .k) (u .groups) r
+
+-- what lies between the states before and after a call
+pub record Between (u : Settings) (s : State) (c : Call) : Type 0 where
+  -- the local time does not fall
+  pub last : s .last .0 ≤ call s c .state .last .0
+  -- what arrives is accepted last, and is the owner's
+  pub arrival : (p : Pending) → List·Memᴰ p (arrivalOf s c) → (p .arrival .0 ≡ call s c .state .last .0) × Owned u (p .request)
+  -- what is pending after it was pending or has arrived
+  pub pending : (p : Pending) → List·Memᴰ p (mine u (call s c .state .pending)) → List·Memᴰ p (mine u (s .pending)) ⊎ List·Memᴰ p (arrivalOf s c)
+
+between : {u : Settings} {s : State} {c : Call} → Act u s c → Between u s c
+between {u} {s} {c} (nothing e a) = record {
+  last = rw e (omega arith);
+  arrival = λ p i. absurd (List·Memᴰ·not-nil (rw a at i));
+  pending = λ p i. inl (rw e at i);
+}
+between {u} {s} {c} (arrives r now proper late room e a) = record {
+  last = rw e late;
+  arrival = λ p i.
+      let k = keep-in (ofGroup (u .owner)) (new ∷ []) (rw a at i) in
+      let same = List·Memᴰ·eq-of-singleton (k .0) in
+      (rw (e, same), record { owner = eqb-true (p .request .group) (u .owner) (k .1); proper = rw same proper });
+  pending = λ p i.
+      rw a (List·Memᴰ·append-cases (mine u (s .pending)) (rw (e, keep-append (ofGroup (u .owner)) (s .pending) (new ∷ [])) at i));
+}
+  where
+    new : Pending
+    new = record { request = r; arrival = now }
+between {u} {s} {c} (steps now late e a) = record {
+  last = rw (e, visits-keep (u .groups) now (atTime now s) .last) late;
+  arrival = λ p i. absurd (List·Memᴰ·not-nil (rw a at i));
+  pending = λ p i. inl (mine-keeps u (visits-keep (u .groups) now (atTime now s)) p (rw e at i));
+}
+
+-- ── the arrival rule ──
+
+-- of what arrived no later than p, and of more, the first of p's timestamp arrived no later than p
+first-no-later : (p : Pending) (a b : List Pending) → ((q : Pending) → List·Memᴰ q a → q .arrival .0 ≤ p .arrival .0)
+    → List·Memᴰ p a ⊎ (firstArrival (p .request .timestamp) b .0 ≤ p .arrival .0) → firstArrival (p .request .timestamp) (a ++ b) .0 ≤ p .arrival .0
+first-no-later p [] b old h = ⊎-elim (λ i. absurd (List·Memᴰ·not-nil i)) (λ late. late) h
+first-no-later p (q ∷ a) b old h = case (stamped (p .request .timestamp) (q .request))
+    (λ e. rw e (old q (List·Memᴰ·head refl)))
+    (λ e. rw e (first-no-later p a b (λ x i. old x (List·Memᴰ·tail i)) (⊎-elim (λ i. ⊎-elim (λ same. absurd (apart e same)) inl (List·Memᴰ·cases-cons i)) inr h)))
+  where
+    apart : stamped (p .request .timestamp) (q .request) ≡ false → p ≡ q → ⊥
+    apart e same = eqb-false (q .request .timestamp .0) (p .request .timestamp .0) e (ap (λ (x : Pending). x .request .timestamp .0) (sym same))
+
+-- the rule, measured from any request of the timestamp
+abbrev pub LooseRule : ℕ → List Pending → Type 0
+LooseRule delta all =
+    (p q : Pending) → List·Memᴰ p all → List·Memᴰ q all → q .request .timestamp .0 ≤ p .request .timestamp .0 → q .arrival .0 ≤ p .arrival .0 + delta
 
 -- ── a run that goes on ──
 
@@ -39,9 +97,6 @@ module _ (u : Settings) (me : ℕ) (ok : Made u me) where
     lent = λ x i. g .lent x (List·Memᴰ·tail i);
   }
 
-  at-sound : {s : State} (now : _) → Sound u me s → Sound u me (atTime now s)
-  at-sound now h = record { settings = h .settings; number = h .number; pending = h .pending; few = h .few; store = h .store }
-
   -- what it sends passes the questions
   pub run-sendable : (calls : List Call) (s : State) → Going u me s calls → AllSendable (u .k) (u .groups) (run s calls .sent)
   unfolding run
@@ -52,72 +107,25 @@ module _ (u : Settings) (me : ℕ) (ok : Made u me) where
       one : Act u s c → AllSendable (u .k) (u .groups) (call s c .sent)
       one (nothing e a) = rw e (λ m i. absurd (List·Memᴰ·not-nil i))
       one (arrives r now proper late room e a) = rw e (λ m i. absurd (List·Memᴰ·not-nil i))
-      one (steps now late e a) = rw e (visits-soundly u me ok (u .groups) now (atTime now s) (at-sound now (g .sound)) .1)
+      one (steps now late e a) =
+          let h = g .sound in
+          rw e (visits-soundly u me ok (u .groups) now (atTime now s)
+          (record { settings = h .settings; number = h .number; pending = h .pending; few = h .few; store = h .store }) .1)
 
--- ── one call ──
+  -- ── its arrivals ──
 
--- an owner's request that passed the questions
-pub record Owned (u : Settings) (r : Request) : Type 0 where
-  pub owner : r .group ≡ u .owner
-  pub proper : Proper (u .k) (u .groups) r
-
-pub record Between (u : Settings) (s : State) (c : Call) : Type 0 where
-  -- the local time does not fall
-  pub last : s .last .0 ≤ call s c .state .last .0
-  -- what arrives is accepted last, and is the owner's
-  pub arrival : (p : Pending) → List·Memᴰ p (arrivalOf s c) → p .arrival .0 ≡ call s c .state .last .0
-  pub owned : (p : Pending) → List·Memᴰ p (arrivalOf s c) → Owned u (p .request)
-  -- what is pending after it was pending or has arrived
-  pub pending : (p : Pending) → List·Memᴰ p (mine u (call s c .state .pending)) → List·Memᴰ p (mine u (s .pending)) ⊎ List·Memᴰ p (arrivalOf s c)
-
-between : {u : Settings} {s : State} {c : Call} → Act u s c → Between u s c
-between {u} {s} {c} (nothing e a) = record {
-  last = rw e (omega arith);
-  arrival = λ p i. absurd (List·Memᴰ·not-nil (rw a at i));
-  owned = λ p i. absurd (List·Memᴰ·not-nil (rw a at i));
-  pending = λ p i. inl (rw e at i);
-}
-between {u} {s} {c} (arrives r now proper late room e a) = record {
-  last = rw e late;
-  arrival = λ p i. rw (e, new p i .0);
-  owned = λ p i. record { owner = eqb-true (p .request .group) (u .owner) (new p i .1); proper = rw (new p i .0) proper };
-  pending = λ p i.
-      rw a (List·Memᴰ·append-cases (mine u (s .pending)) (rw (e, keep-append (ofGroup (u .owner)) (s .pending) (here ∷ [])) at i));
-}
-  where
-    here : Pending
-    here = record { request = r; arrival = now }
-
-    new : (p : Pending) → List·Memᴰ p (arrivalOf s c) → (p ≡ here) × (ofGroup (u .owner) p ≡ true)
-    new p i = let k = keep-in (ofGroup (u .owner)) (here ∷ []) (rw a at i) in (List·Memᴰ·eq-of-singleton (k .0), k .1)
-between {u} {s} {c} (steps now late e a) = record {
-  last = rw (e, visits-keep (u .groups) now (atTime now s) .last) late;
-  arrival = λ p i. absurd (List·Memᴰ·not-nil (rw a at i));
-  owned = λ p i. absurd (List·Memᴰ·not-nil (rw a at i));
-  pending = λ p i. inl (mine-keeps u (visits-keep (u .groups) now (atTime now s)) p (rw e at i));
-}
-
--- ── the arrivals of a run ──
-
--- of what arrived no later than p, and of more, the first of p's timestamp arrived no later than p
-first-no-later : (p : Pending) (a b : List Pending) → ((q : Pending) → List·Memᴰ q a → q .arrival .0 ≤ p .arrival .0)
-    → List·Memᴰ p a ⊎ (firstArrival (p .request .timestamp) b .0 ≤ p .arrival .0) → firstArrival (p .request .timestamp) (a ++ b) .0 ≤ p .arrival .0
-first-no-later p [] b old h = ⊎-elim (λ i. absurd (List·Memᴰ·not-nil i)) (λ late. late) h
-first-no-later p (q ∷ a) b old h = case (stamped (p .request .timestamp) (q .request))
-    (λ e. rw e (old q (List·Memᴰ·head refl)))
-    (λ e. rw e (first-no-later p a b (λ x i. old x (List·Memᴰ·tail i)) (⊎-elim (λ i. ⊎-elim (λ same. absurd (apart e same)) inl (List·Memᴰ·cases-cons i)) inr h)))
-  where
-    apart : stamped (p .request .timestamp) (q .request) ≡ false → p ≡ q → ⊥
-    apart e same = eqb-false (q .request .timestamp .0) (p .request .timestamp .0) e (ap (λ (x : Pending). x .request .timestamp .0) (sym same))
-
--- the rule, measured from any request of the timestamp
-abbrev pub LooseRule : ℕ → List Pending → Type 0
-LooseRule delta all =
-    (p q : Pending) → List·Memᴰ p all → List·Memᴰ q all → q .request .timestamp .0 ≤ p .request .timestamp .0 → q .arrival .0 ≤ p .arrival .0 + delta
-
-module _ (u : Settings) (me : ℕ) (ok : Made u me) where
   pub call-between : {s : State} {c : Call} {calls : List Call} → Going u me s (c ∷ calls) → Between u s c
-  call-between g = between (first-act u me ok g)
+  call-between g = between (first-act g)
+
+  -- what is pending at the end was pending or has arrived
+  pub run-pending : (calls : List Call) (s : State) → Going u me s calls → (p : Pending) → List·Memᴰ p (mine u (run s calls .state .pending))
+      → List·Memᴰ p (mine u (s .pending)) ⊎ List·Memᴰ p (arrivals s calls)
+  unfolding run arrivals
+  run-pending [] s g p i = inl i
+  run-pending (c ∷ calls) s g p i = ⊎-elim
+      (λ j. ⊎-elim inl (λ k. inr (Memᴰ·append-left (arrivals (call s c .state) calls) k)) (call-between g .pending p j))
+      (λ j. inr (Memᴰ·append-right (arrivalOf s c) j))
+      (run-pending calls (call s c .state) (going-next g) p i)
 
   -- what arrives arrives after what was accepted last, and is the owner's
   pub arrivals-later : (calls : List Call) (s : State) → Going u me s calls → (p : Pending) → List·Memᴰ p (arrivals s calls)
@@ -126,10 +134,8 @@ module _ (u : Settings) (me : ℕ) (ok : Made u me) where
   arrivals-later [] s g p i = absurd (List·Memᴰ·not-nil i)
   arrivals-later (c ∷ calls) s g p i =
       let b = call-between g in
-      ⊎-elim (λ (j : List·Memᴰ p (arrivalOf s c)). (omega (arith, b .last, b .arrival p j), b .owned p j))
-      (λ (j : List·Memᴰ p (arrivals (call s c .state) calls)).
-      let r = arrivals-later calls (call s c .state) (going-next u me ok g) p j in
-      (omega (arith, b .last, r .0), r .1))
+      ⊎-elim (λ j. (omega (arith, b .last, b .arrival p j .0), b .arrival p j .1))
+      (λ j. let r = arrivals-later calls (call s c .state) (going-next g) p j in (omega (arith, b .last, r .0), r .1))
       (List·Memᴰ·append-cases (arrivalOf s c) i)
 
   first-earliest : (calls : List Call) (s : State) → Going u me s calls → (p : Pending) → List·Memᴰ p (arrivals s calls)
@@ -138,12 +144,12 @@ module _ (u : Settings) (me : ℕ) (ok : Made u me) where
   first-earliest [] s g p i = absurd (List·Memᴰ·not-nil i)
   first-earliest (c ∷ calls) s g p i =
       let b = call-between g in
-      let next = going-next u me ok g in
-      let rest = arrivals (call s c .state) calls in
+      let next = going-next g in
+      let late = first-no-later p (arrivalOf s c) (arrivals (call s c .state) calls) in
       ⊎-elim
-      (λ (j : List·Memᴰ p (arrivalOf s c)). first-no-later p (arrivalOf s c) rest (λ q k. omega (arith, b .arrival q k, b .arrival p j)) (inl j))
-      (λ (j : List·Memᴰ p rest).
-      first-no-later p (arrivalOf s c) rest (λ q k. omega (arith, b .arrival q k, arrivals-later calls (call s c .state) next p j .0))
+      (λ j. late (λ q k. omega (arith, b .arrival q k .0, b .arrival p j .0)) (inl j))
+      (λ j.
+      late (λ q k. omega (arith, b .arrival q k .0, arrivals-later calls (call s c .state) next p j .0))
       (inr (first-earliest calls (call s c .state) next p j)))
       (List·Memᴰ·append-cases (arrivalOf s c) i)
 

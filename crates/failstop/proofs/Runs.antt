@@ -33,10 +33,8 @@ module _ (u : Settings) (me : ℕ) (ok : Made u me) (all : List Pending) where
   unfolding arrivals
   underway-next s c calls w = record {
     going = going-next u me ok (w .going);
-    pending = λ p i. ⊎-elim
-        (λ (j : List·Memᴰ p (mine u (s .pending))). w .pending p j)
-        (λ (j : List·Memᴰ p (arrivalOf s c)). w .coming p (Memᴰ·append-left (arrivals (call s c .state) calls) j))
-        (call-between u me ok (w .going) .pending p i);
+    pending = λ p i.
+        ⊎-elim (w .pending p) (λ j. w .coming p (Memᴰ·append-left (arrivals (call s c .state) calls) j)) (call-between u me ok (w .going) .pending p i);
     coming = λ p i. w .coming p (Memᴰ·append-right (arrivalOf s c) i);
   }
 
