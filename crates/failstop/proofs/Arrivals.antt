@@ -1,139 +1,157 @@
--- The arrivals of a run: none is before what was accepted last, they do not fall, and the arrival rule may be measured from any
+-- A run call by call: what it sends passes the questions, its arrivals do not fall, and the arrival rule may be measured from any
 -- request of a timestamp.
 use Prim.Native.Nat.{ℕ, _+_, _≤_}
 use mathlib.Core.Path.{_≡_, refl, sym, ap}
-use mathlib.Core.Logic.{_⊎_, inl, ⊎-elim}
-use mathlib.Core.List.{List, [], _∷_, _++_, List·Memᴰ, List·Memᴰ·head, List·Memᴰ·tail, List·Memᴰ·cases-cons, List·Memᴰ·not-nil, List·Memᴰ·append-cases, List·Memᴰ·eq-of-singleton}
+use mathlib.Core.Logic.{_⊎_, inl, inr, ⊎-elim}
+use mathlib.Core.Bool.{false}
+use mathlib.Core.List.{List, [], _∷_, _++_, List·Memᴰ, List·Memᴰ·head, List·Memᴰ·tail, List·Memᴰ·cases-cons, List·Memᴰ·not-nil, List·Memᴰ·append-cases, List·Memᴰ·eq-of-singleton, Memᴰ·append-left, Memᴰ·append-right}
 use native.Mathlib.Omega.{arith}
-use borrow.Author.Tests.{eqb-false}
-use Rattle.rules.specs.Lists.{keep}
+use borrow.Author.Tests.{eqb-true, eqb-false}
+use Rattle.record.specs.declared.request.Request.{Request}
 use Rattle.rules.specs.declared.Settings.{Settings}
-use Rattle.rules.specs.Replica.{State, stamped, ofGroup, visits, atTime}
-use Rattle.rules.specs.Run.{Call, call, arrivalOf, arrivals}
+use Rattle.rules.specs.Replica.{State, stamped, ofGroup, atTime}
+use Rattle.rules.specs.Run.{Call, call, run, arrivalOf, arrivals}
 use Rattle.failstop.specs.Suppose.{firstArrival, ArrivalRule}
 use Rattle.rules.specs.declared.Pending.{Pending}
 use Rattle.question.proofs.Tests.{case}
-use Rattle.laws.proofs.Lists.{keep-in, in-keep, keep-append}
+use Rattle.laws.proofs.Lists.{keep-in, keep-append}
 use Rattle.laws.proofs.Keeps.{visits-keep}
-use Rattle.laws.proofs.Accepted.{Made}
-use Rattle.laws.proofs.Sound.{Sound}
-use Rattle.laws.proofs.Calls.{LentTo, AllLent, Act, nothing, arrives, steps, call-act, call-sound}
+use Rattle.laws.proofs.Accepted.{Made, Proper}
+use Rattle.laws.proofs.Records.{AllSendable}
+use Rattle.laws.proofs.Sound.{Sound, visits-soundly}
+use Rattle.laws.proofs.Calls.{AllLent, Act, nothing, arrives, steps, call-act, call-sound}
+use Rattle.failstop.proofs.Simulation.{mine, mine-keeps}
 
--- ── local times that do not fall ──
+-- ── one call ──
 
-abbrev Rise : List Pending → Type 0
-Rise [] = Unit {0}
-Rise (p ∷ l) = ((q : Pending) → List·Memᴰ q l → p .arrival .0 ≤ q .arrival .0) × Rise l
+-- an owner's request that passed the questions
+pub record Owned (u : Settings) (r : Request) : Type 0 where
+  pub owner : r .group ≡ u .owner
+  pub proper : Proper (u .k) (u .groups) r
 
-rise-append : (a b : List Pending) → Rise a → Rise b → ((p q : Pending) → List·Memᴰ p a → List·Memᴰ q b → p .arrival .0 ≤ q .arrival .0)
-    → Rise (a ++ b)
-rise-append [] b x y h = y
-rise-append (p ∷ a) b x y h = (
-  λ q i. ⊎-elim (λ (j : List·Memᴰ q a). x .0 q j) (λ (j : List·Memᴰ q b). h p q (List·Memᴰ·head refl) j) (List·Memᴰ·append-cases a i),
-  rise-append a b (x .1) y (λ r q i j. h r q (List·Memᴰ·tail i) j),
-)
+-- what lies between the states before and after a call
+pub record Between (u : Settings) (s : State) (c : Call) : Type 0 where
+  -- the local time does not fall
+  pub last : s .last .0 ≤ call s c .state .last .0
+  -- what arrives is accepted last, and is the owner's
+  pub arrival : (p : Pending) → List·Memᴰ p (arrivalOf s c) → (p .arrival .0 ≡ call s c .state .last .0) × Owned u (p .request)
+  -- what is pending after it was pending or has arrived
+  pub pending : (p : Pending) → List·Memᴰ p (mine u (call s c .state .pending)) → List·Memᴰ p (mine u (s .pending)) ⊎ List·Memᴰ p (arrivalOf s c)
 
-first-earliest : (l : List Pending) → Rise l → (p : Pending) → List·Memᴰ p l → firstArrival (p .request .timestamp) l .0 ≤ p .arrival .0
-first-earliest [] x p i = absurd (List·Memᴰ·not-nil i)
-first-earliest (q ∷ l) x p i = case (stamped (p .request .timestamp) (q .request))
-    (λ e. rw e (⊎-elim
-    (λ (s : p ≡ q). omega (arith, ap (λ (y : Pending). y .arrival .0) s))
-    (λ (j : List·Memᴰ p l). x .0 p j)
-    (List·Memᴰ·cases-cons i)))
-    (λ e. rw e (⊎-elim
-    (λ (s : p ≡ q).
-    absurd (eqb-false (q .request .timestamp .0) (p .request .timestamp .0) e (ap (λ (y : Pending). y .request .timestamp .0) (sym s))))
-    (λ (j : List·Memᴰ p l). first-earliest l (x .1) p j)
-    (List·Memᴰ·cases-cons i)))
+between : {u : Settings} {s : State} {c : Call} → Act u s c → Between u s c
+between {u} {s} {c} (nothing e a) = record {
+  last = rw e (omega arith);
+  arrival = λ p i. absurd (List·Memᴰ·not-nil (rw a at i));
+  pending = λ p i. inl (rw e at i);
+}
+between {u} {s} {c} (arrives r now proper late room e a) = record {
+  last = rw e late;
+  arrival = λ p i.
+      let k = keep-in (ofGroup (u .owner)) (new ∷ []) (rw a at i) in
+      let same = List·Memᴰ·eq-of-singleton (k .0) in
+      (rw (e, same), record { owner = eqb-true (p .request .group) (u .owner) (k .1); proper = rw same proper });
+  pending = λ p i.
+      rw a (List·Memᴰ·append-cases (mine u (s .pending)) (rw (e, keep-append (ofGroup (u .owner)) (s .pending) (new ∷ [])) at i));
+}
+  where
+    new : Pending
+    new = record { request = r; arrival = now }
+between {u} {s} {c} (steps now late e a) = record {
+  last = rw (e, visits-keep (u .groups) now (atTime now s) .last) late;
+  arrival = λ p i. absurd (List·Memᴰ·not-nil (rw a at i));
+  pending = λ p i. inl (mine-keeps u (visits-keep (u .groups) now (atTime now s)) p (rw e at i));
+}
+
+-- ── the arrival rule ──
+
+-- of what arrived no later than p, and of more, the first of p's timestamp arrived no later than p
+first-no-later : (p : Pending) (a b : List Pending) → ((q : Pending) → List·Memᴰ q a → q .arrival .0 ≤ p .arrival .0)
+    → List·Memᴰ p a ⊎ (firstArrival (p .request .timestamp) b .0 ≤ p .arrival .0) → firstArrival (p .request .timestamp) (a ++ b) .0 ≤ p .arrival .0
+first-no-later p [] b old h = ⊎-elim (λ i. absurd (List·Memᴰ·not-nil i)) (λ late. late) h
+first-no-later p (q ∷ a) b old h = case (stamped (p .request .timestamp) (q .request))
+    (λ e. rw e (old q (List·Memᴰ·head refl)))
+    (λ e. rw e (first-no-later p a b (λ x i. old x (List·Memᴰ·tail i)) (⊎-elim (λ i. ⊎-elim (λ same. absurd (apart e same)) inl (List·Memᴰ·cases-cons i)) inr h)))
+  where
+    apart : stamped (p .request .timestamp) (q .request) ≡ false → p ≡ q → ⊥
+    apart e same = eqb-false (q .request .timestamp .0) (p .request .timestamp .0) e (ap (λ (x : Pending). x .request .timestamp .0) (sym same))
 
 -- the rule, measured from any request of the timestamp
 abbrev pub LooseRule : ℕ → List Pending → Type 0
 LooseRule delta all =
     (p q : Pending) → List·Memᴰ p all → List·Memᴰ q all → q .request .timestamp .0 ≤ p .request .timestamp .0 → q .arrival .0 ≤ p .arrival .0 + delta
 
-rule-loose : (delta : ℕ) (all : List Pending) → Rise all → ArrivalRule delta all → LooseRule delta all
-rule-loose delta all x rule p q i j h = omega (arith, rule p q i j h, first-earliest all x p i)
+-- ── a run that goes on ──
 
--- ── the arrivals of a run ──
+-- the replica is sound, and the calls to come deliver bytes
+pub record Going (u : Settings) (me : ℕ) (s : State) (calls : List Call) : Type 0 where
+  pub sound : Sound u me s
+  pub lent : AllLent calls
 
 module _ (u : Settings) (me : ℕ) (ok : Made u me) where
-  -- what arrives in a call arrives after what was accepted last, and is accepted last
-  record Between (s : State) (c : Call) : Type 0 where
-    last : s .last .0 ≤ call s c .state .last .0
-    late : (p : Pending) → List·Memᴰ p (arrivalOf s c) → s .last .0 ≤ p .arrival .0
-    now : (p : Pending) → List·Memᴰ p (arrivalOf s c) → p .arrival .0 ≤ call s c .state .last .0
-    rise : Rise (arrivalOf s c)
-    -- what is pending after it was pending or has arrived
-    pending : (p : Pending) → List·Memᴰ p (keep (ofGroup (u .owner)) (call s c .state .pending))
-        → List·Memᴰ p (keep (ofGroup (u .owner)) (s .pending)) ⊎ List·Memᴰ p (arrivalOf s c)
+  pub first-act : {s : State} {c : Call} {calls : List Call} → Going u me s (c ∷ calls) → Act u s c
+  first-act {s} {c} g = call-act u me ok s c (g .sound) (g .lent c (List·Memᴰ·head refl))
 
-  call-between : (s : State) (c : Call) → Sound u me s → LentTo c → Between s c
-  call-between s c h lent = go (call-act u me ok s c h lent)
+  pub going-next : {s : State} {c : Call} {calls : List Call} → Going u me s (c ∷ calls) → Going u me (call s c .state) calls
+  going-next {s} {c} g = record {
+    sound = call-sound u me ok s c (g .sound) (g .lent c (List·Memᴰ·head refl));
+    lent = λ x i. g .lent x (List·Memᴰ·tail i);
+  }
+
+  -- what it sends passes the questions
+  pub run-sendable : (calls : List Call) (s : State) → Going u me s calls → AllSendable (u .k) (u .groups) (run s calls .sent)
+  unfolding run
+  run-sendable [] s g m i = absurd (List·Memᴰ·not-nil i)
+  run-sendable (c ∷ calls) s g m i =
+      ⊎-elim (one (first-act g) m) (run-sendable calls (call s c .state) (going-next g) m) (List·Memᴰ·append-cases (call s c .sent) i)
     where
-      none : arrivalOf s c ≡ [] → {A : Type 0} {p : Pending} → List·Memᴰ p (arrivalOf s c) → A
-      none a i = absurd (List·Memᴰ·not-nil (rw a at i))
+      one : Act u s c → AllSendable (u .k) (u .groups) (call s c .sent)
+      one (nothing e a) = rw e (λ m i. absurd (List·Memᴰ·not-nil i))
+      one (arrives r now proper late room e a) = rw e (λ m i. absurd (List·Memᴰ·not-nil i))
+      one (steps now late e a) =
+          let h = g .sound in
+          rw e (visits-soundly u me ok (u .groups) now (atTime now s)
+          (record { settings = h .settings; number = h .number; pending = h .pending; few = h .few; store = h .store }) .1)
 
-      go : Act u s c → Between s c
-      go (nothing e a) = record {
-        last = rw e (omega arith);
-        late = λ p i. none a i;
-        now = λ p i. none a i;
-        rise = rw a tt;
-        pending = λ p i. inl (rw e at i);
-      }
-      go (arrives r now proper late room e a) = record {
-        last = rw e late;
-        late = λ p i. omega (arith, ap (λ (x : Pending). x .arrival .0) (one p i));
-        now = λ p i. rw e (omega (arith, ap (λ (x : Pending). x .arrival .0) (one p i)));
-        rise = rw a (case (ofGroup (u .owner) new) (λ t. rw t (λ q i. absurd (List·Memᴰ·not-nil i), tt)) (λ t. rw t tt));
-        pending = λ p i. rw a (List·Memᴰ·append-cases (keep (ofGroup (u .owner)) (s .pending))
-            (rw (e, keep-append (ofGroup (u .owner)) (s .pending) (new ∷ [])) at i));
-      }
-        where
-          new : Pending
-          new = record { request = r; arrival = now }
+  -- ── its arrivals ──
 
-          one : (p : Pending) → List·Memᴰ p (arrivalOf s c) → p ≡ new
-          one p i = List·Memᴰ·eq-of-singleton (keep-in (ofGroup (u .owner)) (new ∷ []) (rw a at i) .0)
-      go (steps now late e a) = record {
-        last = rw (e, visits-keep (u .groups) now (atTime now s) .last) late;
-        late = λ p i. none a i;
-        now = λ p i. none a i;
-        rise = rw a tt;
-        pending = λ p i.
-            let k = keep-in (ofGroup (u .owner)) (visits (u .groups) now (atTime now s) .state .pending) (rw e at i) in
-            inl (in-keep (ofGroup (u .owner)) (s .pending) (visits-keep (u .groups) now (atTime now s) .pending p (k .0)) (k .1));
-      }
+  pub call-between : {s : State} {c : Call} {calls : List Call} → Going u me s (c ∷ calls) → Between u s c
+  call-between g = between (first-act g)
 
-  pub arrivals-late : (calls : List Call) (s : State) → Sound u me s → AllLent calls → (p : Pending) → List·Memᴰ p (arrivals s calls)
-      → s .last .0 ≤ p .arrival .0
+  -- what is pending at the end was pending or has arrived
+  pub run-pending : (calls : List Call) (s : State) → Going u me s calls → (p : Pending) → List·Memᴰ p (mine u (run s calls .state .pending))
+      → List·Memᴰ p (mine u (s .pending)) ⊎ List·Memᴰ p (arrivals s calls)
+  unfolding run arrivals
+  run-pending [] s g p i = inl i
+  run-pending (c ∷ calls) s g p i = ⊎-elim
+      (λ j. ⊎-elim inl (λ k. inr (Memᴰ·append-left (arrivals (call s c .state) calls) k)) (call-between g .pending p j))
+      (λ j. inr (Memᴰ·append-right (arrivalOf s c) j))
+      (run-pending calls (call s c .state) (going-next g) p i)
+
+  -- what arrives arrives after what was accepted last, and is the owner's
+  pub arrivals-later : (calls : List Call) (s : State) → Going u me s calls → (p : Pending) → List·Memᴰ p (arrivals s calls)
+      → (s .last .0 ≤ p .arrival .0) × Owned u (p .request)
   unfolding arrivals
-  arrivals-late [] s h lent p i = absurd (List·Memᴰ·not-nil i)
-  arrivals-late (c ∷ calls) s h lent p i =
-      let here = lent c (List·Memᴰ·head refl) in
-      let b = call-between s c h here in
-      ⊎-elim (λ (j : List·Memᴰ p (arrivalOf s c)). b .late p j)
-      (λ (j : List·Memᴰ p (arrivals (call s c .state) calls)).
-      omega (arith, b .last, arrivals-late calls (call s c .state) (call-sound u me ok s c h here) (λ x k. lent x (List·Memᴰ·tail k)) p j))
+  arrivals-later [] s g p i = absurd (List·Memᴰ·not-nil i)
+  arrivals-later (c ∷ calls) s g p i =
+      let b = call-between g in
+      ⊎-elim (λ j. (omega (arith, b .last, b .arrival p j .0), b .arrival p j .1))
+      (λ j. let r = arrivals-later calls (call s c .state) (going-next g) p j in (omega (arith, b .last, r .0), r .1))
       (List·Memᴰ·append-cases (arrivalOf s c) i)
 
-  arrivals-rise : (calls : List Call) (s : State) → Sound u me s → AllLent calls → Rise (arrivals s calls)
+  first-earliest : (calls : List Call) (s : State) → Going u me s calls → (p : Pending) → List·Memᴰ p (arrivals s calls)
+      → firstArrival (p .request .timestamp) (arrivals s calls) .0 ≤ p .arrival .0
   unfolding arrivals
-  arrivals-rise [] s h lent = tt
-  arrivals-rise (c ∷ calls) s h lent =
-      let here = lent c (List·Memᴰ·head refl) in
-      let b = call-between s c h here in
-      let next = call-sound u me ok s c h here in
-      let rest : AllLent calls = λ x k. lent x (List·Memᴰ·tail k) in
-      rise-append (arrivalOf s c) (arrivals (call s c .state) calls) (b .rise) (arrivals-rise calls (call s c .state) next rest)
-      (λ p q i j. omega (arith, b .now p i, arrivals-late calls (call s c .state) next rest q j))
+  first-earliest [] s g p i = absurd (List·Memᴰ·not-nil i)
+  first-earliest (c ∷ calls) s g p i =
+      let b = call-between g in
+      let next = going-next g in
+      let late = first-no-later p (arrivalOf s c) (arrivals (call s c .state) calls) in
+      ⊎-elim
+      (λ j. late (λ q k. omega (arith, b .arrival q k .0, b .arrival p j .0)) (inl j))
+      (λ j.
+      late (λ q k. omega (arith, b .arrival q k .0, arrivals-later calls (call s c .state) next p j .0))
+      (inr (first-earliest calls (call s c .state) next p j)))
+      (List·Memᴰ·append-cases (arrivalOf s c) i)
 
-  pub arrivals-loose : (calls : List Call) (s : State) → Sound u me s → AllLent calls
-      → ArrivalRule (u .delta) (arrivals s calls) → LooseRule (u .delta) (arrivals s calls)
-  arrivals-loose calls s h lent rule = rule-loose (u .delta) (arrivals s calls) (arrivals-rise calls s h lent) rule
-
-  -- the owner's requests pending before a call or arriving in it are all that may be pending after it
-  pub call-pending : (s : State) (c : Call) → Sound u me s → LentTo c → (p : Pending)
-      → List·Memᴰ p (keep (ofGroup (u .owner)) (call s c .state .pending))
-      → List·Memᴰ p (keep (ofGroup (u .owner)) (s .pending)) ⊎ List·Memᴰ p (arrivalOf s c)
-  call-pending s c h lent = call-between s c h lent .pending
+  pub arrivals-loose : (calls : List Call) (s : State) → Going u me s calls → ArrivalRule (u .delta) (arrivals s calls) → LooseRule (u .delta) (arrivals s calls)
+  arrivals-loose calls s g rule p q i j h = omega (arith, rule p q i j h, first-earliest calls s g p i)

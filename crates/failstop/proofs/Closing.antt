@@ -1,9 +1,9 @@
 -- After a closing step none of the owner's requests arrives, and none is pending at the end of the run.
 use Prim.Native.Nat.{ℕ, _+_, _<_}
 use mathlib.Core.Path.{_≡_, refl, _∙_, ap, subst}
-use mathlib.Core.Logic.{_⊎_, inl, inr, ⊎-elim}
-use mathlib.Core.Bool.{Bool, true, false, and-eq-true-iff}
-use mathlib.Core.List.{List, [], _∷_, List·Memᴰ, List·Memᴰ·not-nil, Memᴰ·append-left, Memᴰ·append-right}
+use mathlib.Core.Logic.{⊎-elim}
+use mathlib.Core.Bool.{Bool, true, false}
+use mathlib.Core.List.{List, [], _∷_, List·Memᴰ, List·Memᴰ·not-nil}
 use native.Mathlib.Omega.{arith}
 use lib.Dec.{ltb}
 use lib.ListN.{length}
@@ -13,20 +13,20 @@ use Rattle.record.specs.declared.clock.LocalTime.{LocalTime}
 use Rattle.rules.specs.Lists.{every}
 use Rattle.rules.specs.Batch.{Effect}
 use Rattle.rules.specs.declared.Settings.{Settings}
-use Rattle.rules.specs.Replica.{State, Stepped, stamped, ofGroup, groupTimestamp, batchOf, earliest, isStable, visits, atTime, step}
-use Rattle.rules.specs.Run.{Call, delivery, turn, call, run, arrivalOf, arrivals}
+use Rattle.rules.specs.Replica.{State, Stepped, ofGroup, batchOf, earliest, isStable, visits, atTime, step}
+use Rattle.rules.specs.Run.{Call, delivery, turn, call, run}
 use Rattle.failstop.specs.Suppose.{closesNow, closes}
 use Rattle.rules.specs.declared.Pending.{Pending}
-use Rattle.question.proofs.Tests.{case, true-not-false}
-use Rattle.laws.proofs.Lists.{no-member, keep-in, in-keep, every-in}
+use Rattle.question.proofs.Tests.{case, true-not-false, both}
+use Rattle.laws.proofs.Lists.{no-member, keep-in, every-in}
 use Rattle.laws.proofs.Least.{earliest-hit, batch-some}
 use Rattle.laws.proofs.Keeps.{visits-keep}
 use Rattle.laws.proofs.Settles.{visits-settle}
 use Rattle.laws.proofs.Accepted.{Made}
 use Rattle.laws.proofs.Calls.{call-step}
-use Rattle.failstop.proofs.Simulation.{mine}
-use Rattle.failstop.proofs.Arrivals.{call-pending}
-use Rattle.failstop.proofs.Runs.{Underway, lent-first, underway-next, after-step}
+use Rattle.failstop.proofs.Simulation.{mine, batch-mine, mine-keeps}
+use Rattle.failstop.proofs.Arrivals.{run-pending}
+use Rattle.failstop.proofs.Runs.{Underway, underway-next, after-step}
 
 -- a batch of which every request arrived more than δ ago is stable
 all-stable : (delta : ℕ) (now : LocalTime) (l : List Pending) → 0 < length l → ((p : Pending) → List·Memᴰ p l → p .arrival .0 + delta < now .0)
@@ -46,18 +46,13 @@ module _ (u : Settings) (me : ℕ) (ok : Made u me) where
       left : List Pending
       left = visits (u .groups) now s .state .pending
 
-      was : (q : Pending) → List·Memᴰ q (mine u left) → List·Memᴰ q (mine u (s .pending))
-      was q j =
-          let k = keep-in (ofGroup (u .owner)) left j in
-          in-keep (ofGroup (u .owner)) (s .pending) (visits-keep (u .groups) now s .pending q (k .0)) (k .1)
-
       -- were one left, its group would have a stable batch
       stable : (p : Pending) → List·Memᴰ p (mine u left) → isStable (u .delta) now (batchOf (u .owner) left) ≡ true
       stable p i =
           let k = keep-in (ofGroup (u .owner)) left i in
           let some = batch-some (u .owner) left p (k .0) (eqb-true (p .request .group) (u .owner) (k .1)) in
           all-stable (u .delta) now (batchOf (u .owner) left) some
-          (λ q j. old q (was q (keep-in (λ (x : Pending). stamped (groupTimestamp (u .owner) left) (x .request)) (mine u left) j .0)))
+          (λ q j. old q (mine-keeps u (visits-keep (u .groups) now s) q (batch-mine u left j)))
 
       settled : isStable (u .delta) now (batchOf (u .owner) left) ≡ false
       settled =
@@ -65,19 +60,6 @@ module _ (u : Settings) (me : ℕ) (ok : Made u me) where
           (visits-settle (u .groups) now s (u .owner) (ok .owner-low) (ok .owner-high))
 
   module _ (all : List Pending) where
-    -- what is pending at the end was pending or has arrived
-    pub run-pending : (calls : List Call) (s : State) → Underway u me all s calls → (p : Pending) → List·Memᴰ p (mine u (run s calls .state .pending))
-        → List·Memᴰ p (mine u (s .pending)) ⊎ List·Memᴰ p (arrivals s calls)
-    unfolding run arrivals
-    run-pending [] s w p i = inl i
-    run-pending (c ∷ calls) s w p i = ⊎-elim
-        (λ (j : List·Memᴰ p (mine u (call s c .state .pending))). ⊎-elim
-        (λ (k : List·Memᴰ p (mine u (s .pending))). inl k)
-        (λ (k : List·Memᴰ p (arrivalOf s c)). inr (Memᴰ·append-left (arrivals (call s c .state) calls) k))
-        (call-pending u me ok s c (w .sound) (lent-first w) p j))
-        (λ (j : List·Memᴰ p (arrivals (call s c .state) calls)). inr (Memᴰ·append-right (arrivalOf s c) j))
-        (run-pending calls (call s c .state) (underway-next u me ok all s c calls w) p i)
-
     closing-empty : (s : State) (c : Call) (calls : List Call) → Underway u me all s (c ∷ calls) → closesNow all s c ≡ true
         → mine u (run (call s c .state) calls .state .pending) ≡ []
     closing-empty s (delivery bytes now) calls w e = true-not-false false e refl
@@ -86,25 +68,25 @@ module _ (u : Settings) (me : ℕ) (ok : Made u me) where
         past : Pending → Bool
         past p = ltb (p .arrival .0 + s .settings .delta) (now .0)
 
-        both : (isGiven (step s now output) ≡ true) × (every past all ≡ true)
-        both = and-eq-true-iff (isGiven (step s now output)) (every past all) .0 e
+        parts : (isGiven (step s now output) ≡ true) × (every past all ≡ true)
+        parts = both (isGiven (step s now output)) (every past all) e
 
         old : (p : Pending) → List·Memᴰ p all → p .arrival .0 + u .delta < now .0
-        old p i = rw (w .sound .settings) at (ltb-true (p .arrival .0 + s .settings .delta) (now .0) (every-in past all (both .1) p i))
+        old p i = rw (w .going .sound .settings) at (ltb-true (p .arrival .0 + s .settings .delta) (now .0) (every-in past all (parts .1) p i))
 
         go : (a : Answer Stepped) → step s now output ≡ a → mine u (run (call s (turn now output) .state) calls .state .pending) ≡ []
-        go (refused number) f = true-not-false (isGiven (step s now output)) (both .0) (ap isGiven f)
+        go (refused number) f = true-not-false (isGiven (step s now output)) (parts .0) (ap isGiven f)
         go (given d) f =
             let c = turn now output in
             let next = underway-next u me ok all s c calls w in
-            let same = call-step u me ok s now output (w .sound) f in
+            let same = call-step u me ok s now output (w .going .sound) f in
             let gone : mine u (call s c .state .pending) ≡ [] =
             ap (λ (x : Effect State). mine u (x .state .pending)) same
-            ∙ visits-empty now (atTime now s) (w .sound .settings) (λ p i. old p (w .pending p i)) in
+            ∙ visits-empty now (atTime now s) (w .going .sound .settings) (λ p i. old p (w .pending p i)) in
             no-member _ (λ p i. ⊎-elim
-            (λ (j : List·Memᴰ p (mine u (call s c .state .pending))). List·Memᴰ·not-nil (subst (List·Memᴰ p) gone j))
-            (λ (j : List·Memᴰ p (arrivals (call s c .state) calls)). omega (arith, old p (next .coming p j), after-step u me ok all s c calls w now same p j))
-            (run-pending calls (call s c .state) next p i))
+            (λ j. List·Memᴰ·not-nil (rw gone at j))
+            (λ j. omega (arith, old p (next .coming p j), after-step u me ok all s c calls w now same p j))
+            (run-pending u me ok calls (call s c .state) (next .going) p i))
 
     pub run-empty : (calls : List Call) (s : State) → Underway u me all s calls → closes all s calls ≡ true → mine u (run s calls .state .pending) ≡ []
     unfolding run closes

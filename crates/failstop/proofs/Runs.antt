@@ -1,52 +1,40 @@
 -- A whole run of one replica against the machine: of the owner's pending requests followed by the arrivals still to come, the machine
 -- makes what the run sends the owner, and then what it makes of the requests that are left. Here the arrival rule is used, once.
-use Prim.Native.Nat.{ℕ, _≤_, _<_}
+use Prim.Native.Nat.{ℕ, _≤_}
 use mathlib.Core.Path.{_≡_, refl, _∙_, ap}
 use mathlib.Core.Logic.{⊎-elim}
-use mathlib.Core.Bool.{true}
-use mathlib.Core.List.{List, [], _∷_, _++_, map-append, List·Memᴰ, List·Memᴰ·head, List·Memᴰ·tail, Memᴰ·append-left, Memᴰ·append-right, append-nil, append-assoc}
+use mathlib.Core.List.{List, [], _∷_, _++_, List·Memᴰ, Memᴰ·append-left, Memᴰ·append-right, append-assoc}
 use native.Mathlib.Omega.{arith}
 use lib.Dec.{leb}
 use borrow.Author.Tests.{leb-true, leb-false}
 use Rattle.record.specs.declared.clock.LocalTime.{LocalTime}
 use Rattle.rules.specs.Batch.{Effect}
 use Rattle.rules.specs.declared.Settings.{Settings}
-use Rattle.rules.specs.Replica.{State, requestsOf, ofGroup, visits, atTime}
+use Rattle.rules.specs.Replica.{State, ofGroup, visits, atTime}
 use Rattle.rules.specs.Run.{Call, call, run, arrivalOf, arrivals}
 use Rattle.rules.specs.declared.Pending.{Pending}
 use Rattle.question.proofs.Tests.{case}
-use Rattle.laws.proofs.Lists.{keep-append, map-in}
+use Rattle.laws.proofs.Lists.{keep-append}
 use Rattle.laws.proofs.Keeps.{visits-keep}
 use Rattle.laws.proofs.Accepted.{Made}
-use Rattle.laws.proofs.Sound.{Sound}
-use Rattle.laws.proofs.Calls.{LentTo, AllLent, Act, nothing, arrives, steps, call-act, call-sound}
+use Rattle.laws.proofs.Calls.{Act, nothing, arrives, steps}
 use Rattle.failstop.specs.Demand3.{toGroup}
-use Rattle.failstop.proofs.Simulation.{ahead, ahead-then, mine, Apart, expected, Ready, visits-simulate}
-use Rattle.failstop.proofs.Arrivals.{LooseRule, arrivals-late, call-pending}
-
-requests-append : (a b : List Pending) → requestsOf (a ++ b) ≡ requestsOf a ++ requestsOf b
-requests-append a b = map-append (λ (p : Pending). p .request) a b
+use Rattle.failstop.proofs.Simulation.{ahead, ahead-then, mine, Apart, expected, visits-simulate}
+use Rattle.failstop.proofs.Arrivals.{Going, first-act, going-next, call-between, LooseRule, arrivals-later}
 
 -- where a run stands: all that is pending or still to arrive is among the arrivals of the whole run
 pub record Underway (u : Settings) (me : ℕ) (all : List Pending) (s : State) (calls : List Call) : Type 0 where
-  pub sound : Sound u me s
-  pub lent : AllLent calls
+  pub going : Going u me s calls
   pub pending : (p : Pending) → List·Memᴰ p (mine u (s .pending)) → List·Memᴰ p all
   pub coming : (p : Pending) → List·Memᴰ p (arrivals s calls) → List·Memᴰ p all
-
-pub lent-first : {u : Settings} {me : ℕ} {all : List Pending} {s : State} {c : Call} {calls : List Call} → Underway u me all s (c ∷ calls) → LentTo c
-lent-first {c = c} w = w .lent c (List·Memᴰ·head refl)
 
 module _ (u : Settings) (me : ℕ) (ok : Made u me) (all : List Pending) where
   pub underway-next : (s : State) (c : Call) (calls : List Call) → Underway u me all s (c ∷ calls) → Underway u me all (call s c .state) calls
   unfolding arrivals
   underway-next s c calls w = record {
-    sound = call-sound u me ok s c (w .sound) (lent-first w);
-    lent = λ x k. w .lent x (List·Memᴰ·tail k);
-    pending = λ p i. ⊎-elim
-        (λ (j : List·Memᴰ p (mine u (s .pending))). w .pending p j)
-        (λ (j : List·Memᴰ p (arrivalOf s c)). w .coming p (Memᴰ·append-left (arrivals (call s c .state) calls) j))
-        (call-pending u me ok s c (w .sound) (lent-first w) p i);
+    going = going-next u me ok (w .going);
+    pending = λ p i.
+        ⊎-elim (w .pending p) (λ j. w .coming p (Memᴰ·append-left (arrivals (call s c .state) calls) j)) (call-between u me ok (w .going) .pending p i);
     coming = λ p i. w .coming p (Memᴰ·append-right (arrivalOf s c) i);
   }
 
@@ -58,19 +46,16 @@ module _ (u : Settings) (me : ℕ) (ok : Made u me) (all : List Pending) where
       let next = underway-next s c calls w in
       let last : call s c .state .last .0 ≡ now .0 =
       ap (λ (x : Effect State). x .state .last .0) e ∙ ap (λ (x : LocalTime). x .0) (visits-keep (u .groups) now (atTime now s) .last) in
-      omega (arith, arrivals-late u me ok calls (call s c .state) (next .sound) (next .lent) p i)
+      omega (arith, arrivals-later u me ok calls (call s c .state) (next .going) p i .0)
 
   -- ── one call ──
 
   abbrev CallMatched : State → Call → List Pending → Type 0
-  CallMatched s c coming =
-      expected u me (requestsOf (mine u (s .pending) ++ (arrivalOf s c ++ coming))) (s .store)
-      ≡ ahead (toGroup (u .owner) (call s c .sent)) (expected u me (requestsOf (mine u (call s c .state .pending) ++ coming)) (call s c .state .store))
+  CallMatched s c coming = expected u me (arrivalOf s c ++ coming) s ≡ ahead (toGroup (u .owner) (call s c .sent)) (expected u me coming (call s c .state))
 
-  call-matched : (s : State) (c : Call) (coming : List Pending) → Sound u me s → LentTo c
-      → ((now : LocalTime) → call s c ≡ visits (u .groups) now (atTime now s) → Apart u now (requestsOf coming) (s .pending))
-      → CallMatched s c coming
-  call-matched s c coming h lent apart = go (call-act u me ok s c h lent)
+  call-matched : (s : State) (c : Call) (calls : List Call) (coming : List Pending) → Going u me s (c ∷ calls)
+      → ((now : LocalTime) → call s c ≡ visits (u .groups) now (atTime now s) → Apart u now coming (s .pending)) → CallMatched s c coming
+  call-matched s c calls coming g apart = go (first-act u me ok g)
     where
       go : Act u s c → CallMatched s c coming
       go (nothing e a) = rw (e, a)
@@ -78,41 +63,27 @@ module _ (u : Settings) (me : ℕ) (ok : Made u me) (all : List Pending) where
           let new : List Pending = record { request = r; arrival = now } ∷ [] in
           rw (e, a, keep-append (ofGroup (u .owner)) (s .pending) new, ← append-assoc (mine u (s .pending)) (mine u new) coming)
       go (steps now late e a) =
-          let left = visits (u .groups) now (atTime now s) .state .pending in
-          let ready : Ready u me now (requestsOf coming) (atTime now s) = record { settings = h .settings; number = h .number; apart = apart now e } in
-          rw (e, a, requests-append (mine u (s .pending)) coming, requests-append (mine u left) coming)
-          (visits-simulate u me now (requestsOf coming) (u .groups) (atTime now s) ready .1)
+          rw (e, a) (visits-simulate u me now coming (u .groups) (atTime now s)
+          (record { settings = g .sound .settings; number = g .sound .number; apart = apart now e }) .1)
 
   -- ── a run ──
 
   module _ (rule : LooseRule (u .delta) all) where
-    -- none of it belongs before what was stable in the step
+    -- none of what is still to come belongs before what was stable in the step
     step-apart : (s : State) (c : Call) (calls : List Call) → Underway u me all s (c ∷ calls)
-        → (now : LocalTime) → call s c ≡ visits (u .groups) now (atTime now s)
-        → Apart u now (requestsOf (arrivals (call s c .state) calls)) (s .pending)
-    step-apart s c calls w now e p i old r j =
-        case (leb (r .timestamp .0) (p .request .timestamp .0)) early (leb-false (r .timestamp .0) (p .request .timestamp .0))
-      where
-        q : (x : Pending) × List·Memᴰ x (arrivals (call s c .state) calls) × (r ≡ x .request)
-        q = map-in (λ (x : Pending). x .request) (arrivals (call s c .state) calls) j
+        → (now : LocalTime) → call s c ≡ visits (u .groups) now (atTime now s) → Apart u now (arrivals (call s c .state) calls) (s .pending)
+    step-apart s c calls w now e p i old q j = case (leb (q .request .timestamp .0) (p .request .timestamp .0))
+        (λ t.
+        let soon = rule p q (w .pending p i) (underway-next s c calls w .coming q j) (leb-true (q .request .timestamp .0) (p .request .timestamp .0) t) in
+        absurd (omega (arith, soon, after-step s c calls w now e q j)))
+        (leb-false (q .request .timestamp .0) (p .request .timestamp .0))
 
-        early : leb (r .timestamp .0) (p .request .timestamp .0) ≡ true → p .request .timestamp .0 < r .timestamp .0
-        early t =
-            let before = leb-true (q .0 .request .timestamp .0) (p .request .timestamp .0) (rw (q .2) at t) in
-            let soon = rule p (q .0) (w .pending p i) (underway-next s c calls w .coming (q .0) (q .1)) before in
-            absurd (omega (arith, soon, after-step s c calls w now e (q .0) (q .1)))
-
-    abbrev RunMatched : State → List Call → Type 0
-    RunMatched s calls =
-        expected u me (requestsOf (mine u (s .pending) ++ arrivals s calls)) (s .store)
-        ≡ ahead (toGroup (u .owner) (run s calls .sent)) (expected u me (requestsOf (mine u (run s calls .state .pending))) (run s calls .state .store))
-
-    pub run-matched : (calls : List Call) (s : State) → Underway u me all s calls → RunMatched s calls
+    pub run-matched : (calls : List Call) (s : State) → Underway u me all s calls
+        → expected u me (arrivals s calls) s ≡ ahead (toGroup (u .owner) (run s calls .sent)) (expected u me [] (run s calls .state))
     unfolding run arrivals
-    run-matched [] s w = rw (append-nil (mine u (s .pending)))
+    run-matched [] s w = refl
     run-matched (c ∷ calls) s w =
         let t = call s c .state in
-        let last = run t calls in
-        ahead-then (u .owner) (call s c .sent) (last .sent) (expected u me (requestsOf (mine u (last .state .pending))) (last .state .store))
-        (call-matched s c (arrivals t calls) (w .sound) (lent-first w) (step-apart s c calls w))
+        ahead-then (u .owner) (call s c .sent) (run t calls .sent) (expected u me [] (run t calls .state))
+        (call-matched s c calls (arrivals t calls) (w .going) (step-apart s c calls w))
         (run-matched calls t (underway-next s c calls w))

@@ -2,8 +2,8 @@
 -- sends the owner, and then what it makes of the requests that are left: as long as none to come belongs before a stable batch.
 use Prim.Native.Nat.{ℕ, _+_, _<_}
 use mathlib.Core.Path.{_≡_, refl, sym, _∙_, ap}
-use mathlib.Core.Bool.{true, false, not, _&&_}
-use mathlib.Core.List.{List, [], _∷_, _++_, map, map-append, List·Memᴰ, Memᴰ·map, append-assoc}
+use mathlib.Core.Bool.{true, false, not}
+use mathlib.Core.List.{List, [], _∷_, _++_, map, map-map, map-append, List·Memᴰ, Memᴰ·map, append-assoc}
 use native.Mathlib.Omega.{arith}
 use lib.Dec.{eqb}
 use borrow.Author.Tests.{eqb-true, eq-eqb}
@@ -12,18 +12,18 @@ use Rattle.record.specs.declared.clock.LocalTime.{LocalTime}
 use Rattle.record.specs.declared.request.Request.{Request}
 use Rattle.record.specs.declared.message.Message.{Message}
 use Rattle.rules.specs.Lists.{keep, upTo}
-use Rattle.rules.specs.Batch.{Store, Effect, follow, failed, allReads, unanimous, replyTo, haltTo, handle}
+use Rattle.rules.specs.Batch.{Store, Effect, follow, failed, Verdict, reads, agreed, dissent, verdictOf, replyTo, haltTo, carryOut, handle}
 use Rattle.rules.specs.declared.Settings.{Settings}
-use Rattle.rules.specs.Replica.{State, stamped, requestsOf, ofGroup, groupTimestamp, batchOf, others, isStable, handleBatch, visits}
-use Rattle.rules.specs.Machine.{nobody, react, signedBy}
+use Rattle.rules.specs.Replica.{State, stamped, requestsOf, ofGroup, groupTimestamp, batchOf, others, isStable, inBatch, withPending, withStore, handleBatch, visits}
+use Rattle.rules.specs.Machine.{nobody, decide, react, signedBy}
 use Rattle.rules.specs.declared.Pending.{Pending}
 use Rattle.question.proofs.Tests.{case}
 use Rattle.laws.proofs.Lists.{keep-in, in-keep, keep-none, keep-all, keep-append, map-keep, map-in}
-use Rattle.laws.proofs.Least.{stable-hit, batchAt-in, others-other}
+use Rattle.laws.proofs.Least.{stable-hit, batchAt-in, batchAt-group, others-other}
 use Rattle.laws.proofs.Visits.{visits-all}
 use Rattle.laws.proofs.Keeps.{Keeps, batch-keeps}
 use Rattle.laws.proofs.Owes.{handle-sent}
-use Rattle.laws.proofs.Occurring.{firstOf, restOf}
+use Rattle.laws.proofs.Occurring.{leastBatch, restOf}
 use Rattle.laws.proofs.Machine.{machineFrom, machine-later}
 use Rattle.failstop.specs.Demand3.{toGroup}
 
@@ -44,43 +44,43 @@ ahead-then owner a b z p q =
     p ∙ ap (ahead (toGroup owner a)) q
     ∙ rw (keep-append (λ (m : Message). eqb (m .group) owner) a b, append-assoc (toGroup owner a) (toGroup owner b) (z .sent))
 
-signed-ahead : (me : ℕ) (a : List Message) (e : Effect Store) → signed me (ahead a e) ≡ ahead (map (signedBy me) a) (signed me e)
-signed-ahead me a e = rw (map-append (signedBy me) a (e .sent))
-
 -- ── one batch ──
-
-sign-replies : (s : Store) (me : ℕ) (batch : List Request) → map (replyTo s me) batch ≡ map (signedBy me) (map (replyTo s nobody) batch)
-sign-replies s me [] = refl
-sign-replies s me (r ∷ batch) = ap (λ l. replyTo s me r ∷ l) (sign-replies s me batch)
-
-sign-halts : (group me : ℕ) (t : Timestamp) (l : List ℕ) → map (haltTo group me t) l ≡ map (signedBy me) (map (haltTo group nobody t) l)
-sign-halts group me t [] = refl
-sign-halts group me t (p ∷ l) = ap (λ x. haltTo group me t p ∷ x) (sign-halts group me t l)
 
 -- a replica handles the owner's batch as the machine does
 handle-owner : (u : Settings) (me : ℕ) (t : Timestamp) (batch : List Request) (s : Store)
     → handle u me (u .owner) t batch s ≡ signed me (react (u .k) (u .owner) t batch s)
 unfolding handle react
-handle-owner u me t batch s =
-    case (allReads batch) (λ a. rw (a, sign-replies s me batch))
-    (λ a. case (failed s)
-    (λ f. case (unanimous (u .k) batch) (λ n. rw (a, f, n, own)) (λ n. rw (a, f, n, own)))
-    (λ f. case (unanimous (u .k) batch) (λ n. rw (a, f, n, own)) (λ n. rw (a, f, n, own, sign-halts (u .owner) me t (upTo (u .k + 1))))))
+handle-owner u me t batch s = go (verdictOf (u .k) batch)
   where
     own : eqb (u .owner) (u .owner) ≡ true
     own = eq-eqb (u .owner) (u .owner) refl
+
+    go : (v : Verdict) → carryOut u me (u .owner) t batch s v ≡ signed me (decide (u .k) (u .owner) t batch s v)
+    go reads = rw (map-map (signedBy me) (replyTo s nobody) batch)
+    go (agreed r) = case (failed s) (λ f. rw (own, f)) (λ f. rw (own, f))
+    go dissent = case (failed s) (λ f. rw (own, f)) (λ f. rw (own, f, map-map (signedBy me) (haltTo (u .owner) nobody t) (upTo (u .k + 1))))
 
 -- another group's batch leaves the store
 handle-guest : (u : Settings) (me group : ℕ) (t : Timestamp) (batch : List Request) (s : Store) → eqb group (u .owner) ≡ false
     → handle u me group t batch s .state ≡ s
 unfolding handle
 handle-guest u me group t batch s e =
-    case (allReads batch) (λ a. rw a) (λ a. case (unanimous (u .k) batch) (λ b. rw (a, b, e)) (λ b. rw (a, b, e)))
+    elim (verdictOf (u .k) batch) as (λ v. carryOut u me group t batch s v .state ≡ s) [ reads ↦ refl | agreed r ↦ rw e | dissent ↦ rw e ]
 
--- what stays of the group
+-- ── the owner's pending requests ──
+
+abbrev pub mine : Settings → List Pending → List Pending
+mine u pending = keep (ofGroup (u .owner)) pending
+
+-- its batch is among them
+pub batch-mine : (u : Settings) (pending : List Pending) {p : Pending} → List·Memᴰ p (batchOf (u .owner) pending) → List·Memᴰ p (mine u pending)
+batch-mine u pending {p} i =
+    let t = groupTimestamp (u .owner) pending in
+    keep-in (λ (q : Pending). stamped t (q .request)) (mine u pending) (rw (batchAt-group (u .owner) t pending) at i) .0
+
+-- those of the batch's timestamp are taken off
 mine-others : (group : ℕ) (t : Timestamp) (l : List Pending)
-    → keep (ofGroup group) (keep (λ p. not (ofGroup group p && stamped t (p .request))) l)
-    ≡ keep (λ p. not (stamped t (p .request))) (keep (ofGroup group) l)
+    → keep (ofGroup group) (keep (λ p. not (inBatch group t p)) l) ≡ keep (λ p. not (stamped t (p .request))) (keep (ofGroup group) l)
 mine-others group t [] = refl
 mine-others group t (p ∷ l) =
     let h = mine-others group t l in
@@ -88,104 +88,108 @@ mine-others group t (p ∷ l) =
     (λ a. case (stamped t (p .request)) (λ b. rw (a, b) h) (λ b. rw (a, b, a, h)))
     (λ a. rw (a, a) h)
 
+-- where nothing new is pending, nothing new is among them
+pub mine-keeps : (u : Settings) {s t : State} → Keeps s t → (p : Pending) → List·Memᴰ p (mine u (t .pending)) → List·Memᴰ p (mine u (s .pending))
+mine-keeps u {s} {t} keeps p i =
+    let a = keep-in (ofGroup (u .owner)) (t .pending) i in
+    in-keep (ofGroup (u .owner)) (s .pending) (keeps .pending p (a .0)) (a .1)
+
 -- ── a step ──
 
--- the owner's pending requests
-abbrev pub mine : Settings → List Pending → List Pending
-mine u pending = keep (ofGroup (u .owner)) pending
-
 -- requests still to come have greater timestamps than one that arrived more than δ ago
-abbrev pub Apart : Settings → LocalTime → List Request → List Pending → Type 0
+abbrev pub Apart : Settings → LocalTime → List Pending → List Pending → Type 0
 Apart u now coming pending =
     (p : Pending) → List·Memᴰ p (mine u pending) → p .arrival .0 + u .delta < now .0
-    → (r : Request) → List·Memᴰ r coming → p .request .timestamp .0 < r .timestamp .0
+    → (q : Pending) → List·Memᴰ q coming → p .request .timestamp .0 < q .request .timestamp .0
 
 module _ (u : Settings) (me : ℕ) where
-  -- the machine, its messages signed by the replica
-  abbrev pub expected : List Request → Store → Effect Store
-  expected bag s = signed me (machineFrom (u .k) (u .owner) bag s)
+  -- what the machine makes of the owner's pending requests followed by those to come, signed by the replica
+  abbrev pub expected : List Pending → State → Effect Store
+  expected coming s = signed me (machineFrom (u .k) (u .owner) (requestsOf (mine u (s .pending) ++ coming)) (s .store))
 
-  -- what the machine makes of the owner's requests is what is sent the owner, and then what it makes of those that are left
-  abbrev Matched : List Request → List Pending → Store → List Message → List Pending → Store → Type 0
-  Matched coming pending s sent left t =
-      expected (requestsOf (mine u pending) ++ coming) s ≡ ahead (toGroup (u .owner) sent) (expected (requestsOf (mine u left) ++ coming) t)
+  -- it is what is sent the owner, and then what the machine makes of those that are left
+  abbrev pub Matched : List Pending → State → Effect State → Type 0
+  Matched coming s e = expected coming s ≡ ahead (toGroup (u .owner) (e .sent)) (expected coming (e .state))
 
-  -- what handling the batch of a group does
-  abbrev handled : ℕ → List Pending → Store → Effect Store
-  handled group pending s = handle u me group (groupTimestamp group pending) (requestsOf (batchOf group pending)) s
+  -- what comes of a group's batch
+  abbrev handled : ℕ → State → Effect Store
+  handled group s = handle u me group (groupTimestamp group (s .pending)) (requestsOf (batchOf group (s .pending))) (s .store)
 
-  -- the messages of a batch have its group
-  batch-group : (group : ℕ) (pending : List Pending) (s : Store) (m : Message) → List·Memᴰ m (handled group pending s .sent) → m .group ≡ group
-  batch-group group pending s m i = handle-sent u me group (groupTimestamp group pending) (requestsOf (batchOf group pending)) s of m i .0
-    where
-      of : (r : Request) → List·Memᴰ r (requestsOf (batchOf group pending)) → (r .group ≡ group) × (r .timestamp .0 ≡ groupTimestamp group pending .0)
-      of r j =
-          let a = map-in (λ (p : Pending). p .request) (batchOf group pending) j in
-          let b = batchAt-in group (groupTimestamp group pending) pending (a .1) in
-          (ap (λ (x : Request). x .group) (a .2) ∙ b .1, ap (λ (x : Request). x .timestamp .0) (a .2) ∙ b .2)
+  abbrev BatchMatched : List Pending → ℕ → State → Type 0
+  BatchMatched coming group s =
+      Matched coming s (record { state = withPending (others group (s .pending)) (withStore (handled group s .state) s); sent = handled group s .sent })
 
-  owner-matched : (now : LocalTime) (coming : List Request) (pending : List Pending) (s : Store) → Apart u now coming pending
-      → isStable (u .delta) now (batchOf (u .owner) pending) ≡ true
-      → Matched coming pending s (handled (u .owner) pending s .sent) (others (u .owner) pending) (handled (u .owner) pending s .state)
-  owner-matched now coming pending s apart stable =
-      ap (signed me) (machine-later (u .k) (u .owner) bag coming s hit later)
-      ∙ signed-ahead me (first .sent) (machineFrom (u .k) (u .owner) (restOf bag ++ coming) (first .state))
-      ∙ ap (λ (e : Effect Store). ahead (e .sent) (expected (restOf bag ++ coming) (e .state))) same
-      ∙ rw (rest, loud)
+  -- its messages have its group
+  batch-group : (group : ℕ) (s : State) (m : Message) → List·Memᴰ m (handled group s .sent) → m .group ≡ group
+  batch-group group s m i =
+      let t = groupTimestamp group (s .pending) in
+      handle-sent u me group t (requestsOf (batchOf group (s .pending))) (s .store) (λ r j.
+      let a = map-in (λ (p : Pending). p .request) (batchOf group (s .pending)) j in
+      let b = batchAt-in group t (s .pending) (a .1) in
+      rw (a .2) (b .1, b .2)) m i .0
+
+  owner-matched : (now : LocalTime) (coming : List Pending) (s : State) → Apart u now coming (s .pending)
+      → isStable (u .delta) now (batchOf (u .owner) (s .pending)) ≡ true → BatchMatched coming (u .owner) s
+  owner-matched now coming s apart stable = rw (
+    map-append (λ (p : Pending). p .request) (mine u (s .pending)) coming,
+    machine-later (u .k) (u .owner) bag (requestsOf coming) (s .store) hit later,
+    batch,
+    rest,
+    map-append (λ (p : Pending). p .request) (mine u (others (u .owner) (s .pending))) coming,
+    loud,
+    handle-owner u me t (requestsOf (batchOf (u .owner) (s .pending))) (s .store),
+    map-append (signedBy me),
+  )
     where
       t : Timestamp
-      t = groupTimestamp (u .owner) pending
+      t = groupTimestamp (u .owner) (s .pending)
 
       bag : List Request
-      bag = requestsOf (mine u pending)
-
-      first : Effect Store
-      first = react (u .k) (u .owner) t (firstOf bag) s
+      bag = requestsOf (mine u (s .pending))
 
       -- a request of the batch that arrived more than δ ago
-      old : (p : Pending) × List·Memᴰ p (batchOf (u .owner) pending) × (p .arrival .0 + u .delta < now .0)
-      old = stable-hit (u .delta) now (batchOf (u .owner) pending) stable
+      old : (p : Pending) × List·Memᴰ p (batchOf (u .owner) (s .pending)) × (p .arrival .0 + u .delta < now .0)
+      old = stable-hit (u .delta) now (batchOf (u .owner) (s .pending)) stable
 
-      held : List·Memᴰ (old .0) (mine u pending)
-      held = keep-in (λ (p : Pending). stamped t (p .request)) (mine u pending) (old .1) .0
+      held : List·Memᴰ (old .0) (mine u (s .pending))
+      held = batch-mine u (s .pending) (old .1)
 
       hit : List·Memᴰ (old .0 .request) bag
       hit = Memᴰ·map (λ (p : Pending). p .request) held
 
-      later : (r : Request) → List·Memᴰ r coming → t .0 < r .timestamp .0
-      later r i = omega (arith, apart (old .0) held (old .2) r i, batchAt-in (u .owner) t pending (old .1) .2)
+      later : (r : Request) → List·Memᴰ r (requestsOf coming) → t .0 < r .timestamp .0
+      later r i =
+          let q = map-in (λ (p : Pending). p .request) coming i in
+          rw (q .2) (omega (arith, apart (old .0) held (old .2) (q .0) (q .1), batchAt-in (u .owner) t (s .pending) (old .1) .2))
 
-      same : signed me first ≡ handled (u .owner) pending s
-      same =
-          ap (λ (l : List Request). signed me (react (u .k) (u .owner) t l s)) (map-keep (λ (p : Pending). p .request) (stamped t) (mine u pending))
-          ∙ sym (handle-owner u me t (requestsOf (batchOf (u .owner) pending)) s)
+      batch : leastBatch bag ≡ requestsOf (batchOf (u .owner) (s .pending))
+      batch = map-keep (λ (p : Pending). p .request) (stamped t) (mine u (s .pending)) ∙ ap requestsOf (sym (batchAt-group (u .owner) t (s .pending)))
 
-      rest : restOf bag ≡ requestsOf (mine u (others (u .owner) pending))
+      rest : restOf bag ≡ requestsOf (mine u (others (u .owner) (s .pending)))
       rest =
-          map-keep (λ (p : Pending). p .request) (λ r. not (stamped t r)) (mine u pending)
-          ∙ ap requestsOf (sym (mine-others (u .owner) t pending))
+          map-keep (λ (p : Pending). p .request) (λ r. not (stamped t r)) (mine u (s .pending))
+          ∙ ap requestsOf (sym (mine-others (u .owner) t (s .pending)))
 
-      loud : toGroup (u .owner) (handled (u .owner) pending s .sent) ≡ handled (u .owner) pending s .sent
-      loud = keep-all (λ (m : Message). eqb (m .group) (u .owner)) (handled (u .owner) pending s .sent)
-          (λ m i. eq-eqb (m .group) (u .owner) (batch-group (u .owner) pending s m i))
+      loud : toGroup (u .owner) (handled (u .owner) s .sent) ≡ handled (u .owner) s .sent
+      loud = keep-all (λ (m : Message). eqb (m .group) (u .owner)) (handled (u .owner) s .sent)
+          (λ m i. eq-eqb (m .group) (u .owner) (batch-group (u .owner) s m i))
 
-  guest-matched : (group : ℕ) (coming : List Request) (pending : List Pending) (s : Store) → eqb group (u .owner) ≡ false
-      → Matched coming pending s (handled group pending s .sent) (others group pending) (handled group pending s .state)
-  guest-matched group coming pending s e =
-      let kept = handle-guest u me group (groupTimestamp group pending) (requestsOf (batchOf group pending)) s e in
-      rw (others-other group pending (u .owner) e, quiet, kept)
+  guest-matched : (group : ℕ) (coming : List Pending) (s : State) → eqb group (u .owner) ≡ false → BatchMatched coming group s
+  guest-matched group coming s e =
+      let kept = handle-guest u me group (groupTimestamp group (s .pending)) (requestsOf (batchOf group (s .pending))) (s .store) e in
+      rw (others-other group (s .pending) (u .owner) e, quiet, kept)
     where
-      quiet : toGroup (u .owner) (handled group pending s .sent) ≡ []
-      quiet = keep-none (λ (m : Message). eqb (m .group) (u .owner)) _ (λ m i. rw (batch-group group pending s m i) e)
+      quiet : toGroup (u .owner) (handled group s .sent) ≡ []
+      quiet = keep-none (λ (m : Message). eqb (m .group) (u .owner)) _ (λ m i. rw (batch-group group s m i) e)
 
-  module _ (now : LocalTime) (coming : List Request) where
+  module _ (now : LocalTime) (coming : List Pending) where
     pub record Ready (s : State) : Type 0 where
       pub settings : s .settings ≡ u
       pub number : s .number ≡ me
       pub apart : Apart u now coming (s .pending)
 
     abbrev Simulates : State → Effect State → Type 0
-    Simulates s e = Ready s → Ready (e .state) × Matched coming (s .pending) (s .store) (e .sent) (e .state .pending) (e .state .store)
+    Simulates s e = Ready s → Ready (e .state) × Matched coming s e
 
     simulates-then : (s : State) (e : Effect State) (next : State → Effect State)
         → Simulates s e → Simulates (e .state) (next (e .state)) → Simulates s (follow e next)
@@ -193,32 +197,21 @@ module _ (u : Settings) (me : ℕ) where
         let x = a h in
         let y = b (x .0) in
         let last = next (e .state) in
-        let left = expected (requestsOf (mine u (last .state .pending)) ++ coming) (last .state .store) in
-        (y .0, ahead-then (u .owner) (e .sent) (last .sent) left (x .1) (y .1))
+        (y .0, ahead-then (u .owner) (e .sent) (last .sent) (expected coming (last .state)) (x .1) (y .1))
 
     batch-simulates : (group : ℕ) (s : State) → isStable (s .settings .delta) now (batchOf group (s .pending)) ≡ true
         → Simulates s (handleBatch group s)
     unfolding handleBatch
     batch-simulates group s stable h =
-        (ready, rw (h .settings, h .number) (case (eqb group (u .owner)) own (guest-matched group coming (s .pending) (s .store))))
+        (ready, rw (h .settings, h .number) (case (eqb group (u .owner)) own (guest-matched group coming s)))
       where
-        keeps : Keeps s (handleBatch group s .state)
-        keeps = batch-keeps group s
-
         ready : Ready (handleBatch group s .state)
-        ready = record {
-          settings = h .settings;
-          number = h .number;
-          apart = λ p i. let a = keep-in (ofGroup (u .owner)) (others group (s .pending)) i in
-              h .apart p (in-keep (ofGroup (u .owner)) (s .pending) (keeps .pending p (a .0)) (a .1));
-        }
+        ready = record { settings = h .settings; number = h .number; apart = λ p i. h .apart p (mine-keeps u (batch-keeps group s) p i) }
 
-        own : eqb group (u .owner) ≡ true
-            → let done = handled group (s .pending) (s .store) in
-            Matched coming (s .pending) (s .store) (done .sent) (others group (s .pending)) (done .state)
+        own : eqb group (u .owner) ≡ true → BatchMatched coming group s
         own e =
             let same = eqb-true group (u .owner) e in
-            rw same (owner-matched now coming (s .pending) (s .store) (h .apart) (rw (h .settings, same) at stable))
+            rw same (owner-matched now coming s (h .apart) (rw (h .settings, same) at stable))
 
     pub visits-simulate : (n : ℕ) (s : State) → Simulates s (visits n now s)
     visits-simulate n s = visits-all now Simulates (λ s h. (h, refl)) simulates-then batch-simulates n s
