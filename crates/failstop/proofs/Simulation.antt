@@ -72,13 +72,13 @@ handle-guest u me group t batch s e =
 abbrev pub mine : Settings → List Pending → List Pending
 mine u pending = keep (ofGroup (u .owner)) pending
 
--- its batch is among them
+-- the owner's batch is among them
 pub batch-mine : (u : Settings) (pending : List Pending) {p : Pending} → List·Memᴰ p (batchOf (u .owner) pending) → List·Memᴰ p (mine u pending)
 batch-mine u pending {p} i =
     let t = groupTimestamp (u .owner) pending in
     keep-in (λ (q : Pending). stamped t (q .request)) (mine u pending) (rw (batchAt-group (u .owner) t pending) at i) .0
 
--- those of the batch's timestamp are taken off
+-- what is left of a group without its requests of a timestamp
 mine-others : (group : ℕ) (t : Timestamp) (l : List Pending)
     → keep (ofGroup group) (keep (λ p. not (inBatch group t p)) l) ≡ keep (λ p. not (stamped t (p .request))) (keep (ofGroup group) l)
 mine-others group t [] = refl
