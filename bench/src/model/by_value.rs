@@ -12,14 +12,20 @@ pub struct Pending {
     pub arrival: LocalTime,
 }
 
-/// One copy of the store; the first `count` places of `pending` are taken.
+/// What the unit was set up with.
 #[derive(Clone, Copy, Debug)]
-pub struct Replica {
+pub struct SetUp {
     pub k: u8,
     pub groups: u8,
     pub owner: u8,
-    pub number: u8,
     pub delta: u64,
+}
+
+/// One copy of the store; the first `count` places of `pending` are taken.
+#[derive(Clone, Copy, Debug)]
+pub struct Replica {
+    pub set_up: SetUp,
+    pub number: u8,
     pub last: LocalTime,
     pub variables: [u32; VARIABLES],
     pub pending: [Pending; PENDING_LIMIT],
@@ -53,11 +59,8 @@ impl Replica {
     pub fn make(k: u8, groups: u8, owner: u8, delta: u64, number: u8) -> Result<Self, Refusal> {
         replica::Replica::make(k, groups, owner, delta, number)?;
         Ok(Replica {
-            k,
-            groups,
-            owner,
+            set_up: SetUp { k, groups, owner, delta },
             number,
-            delta,
             last: LocalTime(0),
             variables: [0; VARIABLES],
             pending: [Pending::default(); PENDING_LIMIT],
@@ -79,7 +82,7 @@ impl Replica {
     }
 
     fn accept(&mut self, bytes: &[u8], at: LocalTime) -> Result<(), Refusal> {
-        let request = Settings::new(self.k, self.groups)?.read_request(bytes)?;
+        let request = Settings::new(self.set_up.k, self.set_up.groups)?.read_request(bytes)?;
         self.check_time(at)?;
         let place = self.pending.get_mut(self.count).ok_or(Refusal::PendingFull)?;
         *place = Pending { request: request.fields(), arrival: at };
@@ -94,7 +97,7 @@ impl Replica {
         self.last = at;
         let mut sending = Sending { output, count: 0 };
         let mut batch = [RequestFields::default(); PENDING_LIMIT];
-        for group in 1..=self.groups {
+        for group in 1..=self.set_up.groups {
             while let Some(timestamp) = self.stable_head(group, at) {
                 let length = self.take(group, timestamp, &mut batch);
                 self.handle(&batch[..length], &mut sending);
@@ -117,7 +120,7 @@ impl Replica {
                 head = Some(pending);
             }
         }
-        head.filter(|head| head.arrival.0 + self.delta < at.0).map(|head| head.request.timestamp)
+        head.filter(|head| head.arrival.0 + self.set_up.delta < at.0).map(|head| head.request.timestamp)
     }
 
     /// Moves a batch out and gives its length; the others move up in order.
@@ -139,9 +142,9 @@ impl Replica {
 
     fn handle(&mut self, batch: &[RequestFields], sending: &mut Sending) {
         let (group, timestamp) = (batch[0].group, batch[0].timestamp);
-        match judge(batch, usize::from(self.k) + 1) {
+        match judge(batch, usize::from(self.set_up.k) + 1) {
             Verdict::Reads => self.answer(batch, sending),
-            _ if group != self.owner || self.variables[FAILED] != 0 => {}
+            _ if group != self.set_up.owner || self.variables[FAILED] != 0 => {}
             Verdict::Agreed(variable, value) => {
                 self.variables[usize::from(variable)] = value;
                 self.writes += 1;
@@ -166,9 +169,9 @@ impl Replica {
 
     fn fail(&mut self, timestamp: Timestamp, sending: &mut Sending) {
         self.variables[FAILED] = 1;
-        for process in 1..=self.k + 1 {
+        for process in 1..=self.set_up.k + 1 {
             sending.send(&Message {
-                group: self.owner,
+                group: self.set_up.owner,
                 process,
                 replica: self.number,
                 timestamp,
