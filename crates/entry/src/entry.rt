@@ -12,7 +12,7 @@ use limits::ENTRY;
 use question::Outcome;
 use question::is_within;
 use record::LocalTime;
-use record::number_at;
+use record::number8;
 use rules::Settings;
 
 const SETUP: u8 = 1;
@@ -67,7 +67,7 @@ fn settings_in(bytes: &[u8]) -> Settings
         k: bytes[16],
         groups: bytes[17],
         owner: bytes[18],
-        delta: number_at(bytes, 8, 8),
+        delta: number8(bytes, 8),
     }
 }
 
@@ -118,7 +118,7 @@ fn entry_in(bytes: &[u8]) -> EntryRead
     ensures { λ r. ⌜ entryAnswer (now (bytes .entry)) r ≡ given (entryIn (now (bytes .entry))) ⌝ }
 {
     let number = bytes[1];
-    let at = LocalTime(number_at(bytes, 8, 8));
+    let at = LocalTime(number8(bytes, 8));
     if bytes[0] == DELIVERY {
         return EntryRead::Delivery(number, at);
     }

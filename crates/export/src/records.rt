@@ -49,6 +49,26 @@ fn accepted_request(r: Request) -> RequestResult
     }
 }
 
+// The same of a message.
+fn accepted_message(m: Message) -> MessageResult
+    ensures { λ a. ⌜ a ≡ messageResult (given m) ⌝ }
+{
+    let timestamp = m.timestamp;
+    let message = Message {
+        kind: m.kind,
+        group: m.group,
+        process: m.process,
+        replica: m.replica,
+        variable: m.variable,
+        timestamp,
+        value: m.value,
+    };
+    MessageResult {
+        refusal: 0,
+        message,
+    }
+}
+
 fn request_result(read: RequestRead) -> RequestResult
     ensures { λ r. ⌜ r ≡ requestResult (requestAnswer read) ⌝ }
 {
@@ -65,10 +85,7 @@ fn message_result(read: MessageRead) -> MessageResult
     ensures { λ r. ⌜ r ≡ messageResult (messageAnswer read) ⌝ }
 {
     match read {
-        MessageRead::Accepted(message) => MessageResult {
-            refusal: 0,
-            message,
-        },
+        MessageRead::Accepted(message) => accepted_message(message),
         MessageRead::Refused(refusal) => MessageResult {
             refusal,
             message: Message::blank(),

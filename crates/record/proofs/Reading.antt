@@ -6,8 +6,8 @@ use lib.Dec.{eqb, leb}
 use lib.ListN.{length, drop}
 use borrow.Author.Tests.{eqb-true, eq-eqb, leb-true, le-leb}
 use Rattle.limits.specs.Limits.{recordSize}
-use Rattle.question.specs.Question.{Question, _else_, Answer, given, Worked, worked, ask, next, after, verdict, unitQuestions}
-use Rattle.question.proofs.Questions.{AllYes, all-yes-parts, all-yes-both, ask-chain, ask-yes, ask-all-yes, ask-through, ask-verdict, next-asked, same-given}
+use Rattle.question.specs.Question.{Question, _else_, Answer, given, Worked, worked, ask, mapAnswer, next, after, verdict, unitQuestions}
+use Rattle.question.proofs.Questions.{AllYes, all-yes-parts, all-yes-both, ask-chain, ask-yes, ask-all-yes, ask-through, ask-map, ask-verdict, next-asked, same-given}
 use Rattle.record.specs.Layout.{fieldsOf, bytesOf}
 use Rattle.record.specs.Record.{fieldQuestions, readQuestions, readFields, writeQuestions, writeFields}
 use Rattle.record.specs.declared.fields.Fields.{Fields}
@@ -35,28 +35,44 @@ module _ (family : Family) (k n : ℕ) where
   -- then come those of the fields
   pub read-next : (bytes : List ℕ) (alone : Answer Worked) →
       alone ≡ ask (unitQuestions k n ++ lengthQuestion bytes) (given worked) →
-      next alone (ask (fieldQuestions family k n (fieldsOf bytes)) (given (fieldsOf bytes))) ≡ readFields family k n bytes
-  unfolding readFields
+      next alone (ask (fieldQuestions family k n (fieldsOf bytes)) (given worked)) ≡ ask (readQuestions family k n bytes) (given worked)
   read-next bytes alone e = rw e (simp (ask-chain, append-assoc))
 
-  module _ (f : Fields) (destination : List ℕ) (alone : Answer Worked) (asked : alone ≡ ask (writeQuestions family k n f destination) (given worked)) where
+  module _ (bytes : List ℕ) (alone : Answer Worked) (asked : alone ≡ ask (readQuestions family k n bytes) (given worked)) where
+    -- bytes that pass are 24
+    pub read-long : alone ≡ given worked → length bytes ≡ recordSize
+    read-long e =
+        let fields = fieldQuestions family k n (fieldsOf bytes) in
+        let all = ask-all-yes (readQuestions family k n bytes) (given worked) (sym asked ∙ e) in
+        eqb-true (length bytes) recordSize (all-yes-parts (unitQuestions k n) ((eqb (length bytes) recordSize else 6) ∷ fields) all .1 .0)
+
+    -- what is made of the fields, where they pass
+    pub read-as : {A : Type 0} (of : Fields → A) → next alone (given (of (fieldsOf bytes))) ≡ mapAnswer of (readFields family k n bytes)
+    unfolding readFields
+    read-as of = next-asked questions (given (of (fieldsOf bytes))) alone asked ∙ ask-map questions of (fieldsOf bytes)
+      where
+        questions : List Question
+        questions = readQuestions family k n bytes
+
+  module _ (f : Fields) (destination : List ℕ) (alone : Answer Worked)
+      (asked : alone ≡ ask (writeQuestions family k n f (length destination)) (given worked)) where
     -- a destination that passes question 15 has room
     pub write-room : alone ≡ given worked → recordSize ≤ length destination
     write-room e =
         let fields = fieldQuestions family k n f in
-        let all = ask-all-yes (writeQuestions family k n f destination) (given worked) (sym asked ∙ e) in
+        let all = ask-all-yes (writeQuestions family k n f (length destination)) (given worked) (sym asked ∙ e) in
         let later = all-yes-parts (unitQuestions k n) (fields ++ roomQuestion destination) all .1 in
         leb-true recordSize (length destination) (all-yes-parts fields (roomQuestion destination) later .1 .0)
 
     pub write-verdict : alone ≡ verdict (writeFields family k n f destination)
     unfolding writeFields
-    write-verdict = asked ∙ sym (ask-verdict (writeQuestions family k n f destination) (bytesOf f ++ drop recordSize destination))
+    write-verdict = asked ∙ sym (ask-verdict (writeQuestions family k n f (length destination)) (bytesOf f ++ drop recordSize destination))
 
     pub write-content : {content : List ℕ} →
         content ≡ after destination (next alone (given (bytesOf f ++ drop recordSize destination))) →
         content ≡ after destination (writeFields family k n f destination)
     unfolding writeFields
-    write-content c = rw (next-asked (writeQuestions family k n f destination) (given (bytesOf f ++ drop recordSize destination)) alone asked) at c
+    write-content c = rw (next-asked (writeQuestions family k n f (length destination)) (given (bytesOf f ++ drop recordSize destination)) alone asked) at c
 
   -- ── what reading asks is answered yes ──
 
@@ -98,7 +114,7 @@ module _ (family : Family) (k n : ℕ) where
       Writable f destination → writeFields family k n f destination ≡ given (bytesOf f ++ drop recordSize destination)
   unfolding writeFields
   write-given {f} {destination} h =
-      ask-yes (writeQuestions family k n f destination) _
+      ask-yes (writeQuestions family k n f (length destination)) _
       (all-yes-both (unitQuestions k n) _ (h .unit)
       (all-yes-both (fieldQuestions family k n f) _ (facts-asked family k n f (h .fields)) (le-leb recordSize (length destination) (h .room), tt)))
 
@@ -107,7 +123,7 @@ module _ (family : Family) (k n : ℕ) where
   unfolding writeFields
   write-writable f destination e =
       let fields = fieldQuestions family k n f in
-      let all = ask-all-yes (writeQuestions family k n f destination) (given (bytesOf f ++ drop recordSize destination)) e in
+      let all = ask-all-yes (writeQuestions family k n f (length destination)) (given (bytesOf f ++ drop recordSize destination)) e in
       let parts = all-yes-parts (unitQuestions k n) (fields ++ roomQuestion destination) all in
       let later = all-yes-parts fields (roomQuestion destination) (parts .1) in
       record {

@@ -12,7 +12,6 @@ use Rattle.record.specs.Kind.{isOf, rowOf}
 use Rattle.record.specs.declared.fields.Fields.{Fields}
 use Rattle.record.specs.declared.kind.Family.{Family}
 use Rattle.record.specs.declared.kind.Family.the-variants.{Requests, Messages, Neither}
-use Rattle.record.specs.declared.check.FieldsRead.{FieldsRead}
 use Rattle.record.specs.declared.request.Request.{Request}
 use Rattle.record.specs.declared.request.RequestRead.{RequestRead}
 use Rattle.record.specs.declared.message.Message.{Message}
@@ -66,13 +65,12 @@ unfoldable pub readFields : Family → ℕ → ℕ → List ℕ → Answer Field
 readFields family k n bytes = ask (readQuestions family k n bytes) (given (fieldsOf bytes))
 
 -- writing: 1 and 2, those of the fields, then the room; it gives the destination, changed in its first 24 bytes
-abbrev pub writeQuestions : Family → ℕ → ℕ → Fields → List ℕ → List Question
-writeQuestions family k n f destination =
-    unitQuestions k n ++ (fieldQuestions family k n f ++ ((leb recordSize (length destination) else 15) ∷ []))
+abbrev pub writeQuestions : Family → ℕ → ℕ → Fields → ℕ → List Question
+writeQuestions family k n f room = unitQuestions k n ++ (fieldQuestions family k n f ++ ((leb recordSize room else 15) ∷ []))
 
 unfoldable pub writeFields : Family → ℕ → ℕ → Fields → List ℕ → Answer (List ℕ)
 writeFields family k n f destination =
-    ask (writeQuestions family k n f destination) (given (bytesOf f ++ drop recordSize destination))
+    ask (writeQuestions family k n f (length destination)) (given (bytesOf f ++ drop recordSize destination))
 
 -- ── requests ──
 
@@ -143,10 +141,6 @@ abbrev pub blankMessage : Message
 blankMessage = record { kind = 0; group = 0; process = 0; replica = 0; variable = 0; timestamp = record { 0 = 0 }; value = 0 }
 
 -- ── the answers of the code: document 01's number and values for each case ──
-
-abbrev pub fieldsAnswer : FieldsRead → Answer Fields
-fieldsAnswer (FieldsRead.Accepted f) = given f
-fieldsAnswer (FieldsRead.Refused number) = refused number
 
 abbrev pub requestAnswer : RequestRead → Answer Request
 requestAnswer (RequestRead.Accepted r) = given r

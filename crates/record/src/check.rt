@@ -1,12 +1,11 @@
-// What is asked of a record, and the reading and writing of its fields: one path for requests and
-// messages.
+// What is asked of a record that is read or written: one path for requests and messages.
 ghost use mathlib.Core.Path.{_≡_};
 ghost use mathlib.Core.List.{[], _∷_, _++_};
 ghost use lib.Dec.{eqb};
 ghost use Rattle.limits.specs.Limits.{recordSize};
-ghost use Rattle.question.specs.Question.{_else_, given, worked, ask, after, verdict, outcome, unitQuestions};
+ghost use Rattle.question.specs.Question.{_else_, given, worked, ask, outcome, unitQuestions};
 ghost use Rattle.record.specs.Kind.{rowOf};
-ghost use Rattle.record.specs.Record.{hasSender, senderQuestions, allowsVariable, sparesZero, allowsValue, fieldQuestions, readFields, writeFields, fieldsAnswer};
+ghost use Rattle.record.specs.Record.{hasSender, senderQuestions, allowsVariable, sparesZero, allowsValue, fieldQuestions, readQuestions, writeQuestions};
 use crate::fields::Fields;
 use crate::kind::Family;
 use crate::kind::Row;
@@ -16,11 +15,6 @@ use limits::RECORD;
 use question::Outcome;
 use question::check_unit;
 use question::is_within;
-
-pub enum FieldsRead {
-    Accepted(Fields),
-    Refused(u8),
-}
 
 fn has_sender(family: Family) -> bool
     ensures { λ b. ⌜ b ≡ hasSender family ⌝ }
@@ -88,40 +82,21 @@ fn check_length(k: u8, n: u8, length: usize) -> Outcome
     check_unit(k, n).ask(length == RECORD, 6)
 }
 
-// The fields, where their questions are answered yes.
-fn accept_fields(family: Family, k: u8, n: u8, f: Fields) -> FieldsRead
-    ensures { λ r. ⌜ fieldsAnswer r ≡ ask (fieldQuestions family k n f) (given f) ⌝ }
-{
-    match check_fields(family, k, n, f) {
-        Outcome::Done => FieldsRead::Accepted(f),
-        Outcome::Refused(number) => FieldsRead::Refused(number),
-    }
-}
-
-pub(crate) fn read_fields(family: Family, k: u8, n: u8, bytes: &[u8]) -> FieldsRead
-    ensures { λ r. ⌜ fieldsAnswer r ≡ readFields family k n (now (bytes .entry)) ⌝ }
+// All questions of reading, in one place for both families.
+pub(crate) fn check_read(family: Family, k: u8, n: u8, bytes: &[u8]) -> Outcome
+    ensures { λ o. ⌜ outcome o ≡ ask (readQuestions family k n (now (bytes .entry))) (given worked) ⌝ }
 {
     match check_length(k, n, bytes.len()) {
-        Outcome::Done => accept_fields(family, k, n, Fields::of_bytes(bytes)),
-        Outcome::Refused(number) => FieldsRead::Refused(number),
+        Outcome::Done => check_fields(family, k, n, Fields::of_bytes(bytes)),
+        Outcome::Refused(number) => Outcome::Refused(number),
     }
 }
 
-// Writes the first 24 bytes of the destination, or refuses and writes nothing.
-pub(crate) fn write_fields(
-    family: Family,
-    k: u8,
-    n: u8,
-    f: Fields,
-    destination: &mut [u8],
-) -> Outcome
-    ensures answer { λ o. ⌜ outcome o ≡ verdict (writeFields family k n f (now (destination .entry))) ⌝ }
-    ensures content { λ o. ⌜ now (destination .exit) ≡ after (now (destination .entry)) (writeFields family k n f (now (destination .entry))) ⌝ }
+// All questions of writing into a destination of a length.
+pub(crate) fn check_write(family: Family, k: u8, n: u8, f: Fields, length: usize) -> Outcome
+    ensures { λ o. ⌜ outcome o ≡ ask (writeQuestions family k n f length) (given worked) ⌝ }
 {
-    let room = RECORD <= destination.len();
-    let o = check_unit(k, n)
+    check_unit(k, n)
         .then(check_fields(family, k, n, f))
-        .ask(room, 15);
-    f.put_unless_refused(o, destination);
-    o
+        .ask(RECORD <= length, 15)
 }

@@ -2,10 +2,9 @@
 ghost use mathlib.Core.Path.{_≡_};
 ghost use Rattle.question.specs.Question.{after, verdict, outcome};
 ghost use Rattle.record.specs.Record.{messageIn, messageFields, messageAnswer, readMessage, writeMessage, passes, blankMessage};
-use crate::check::FieldsRead;
 use crate::check::check_fields;
-use crate::check::read_fields;
-use crate::check::write_fields;
+use crate::check::check_read;
+use crate::check::check_write;
 use crate::clock::Timestamp;
 use crate::fields::Fields;
 use crate::kind::Family;
@@ -91,9 +90,9 @@ impl Message {
 pub fn read_message(k: u8, n: u8, bytes: &[u8]) -> MessageRead
     ensures { λ r. ⌜ messageAnswer r ≡ readMessage k n (now (bytes .entry)) ⌝ }
 {
-    match read_fields(Family::Messages, k, n, bytes) {
-        FieldsRead::Accepted(f) => MessageRead::Accepted(Message::of_fields(f)),
-        FieldsRead::Refused(number) => MessageRead::Refused(number),
+    match check_read(Family::Messages, k, n, bytes) {
+        Outcome::Done => MessageRead::Accepted(Message::of_fields(Fields::of_bytes(bytes))),
+        Outcome::Refused(number) => MessageRead::Refused(number),
     }
 }
 
@@ -102,5 +101,8 @@ pub fn write_message(k: u8, n: u8, m: Message, destination: &mut [u8]) -> Outcom
     ensures answer { λ o. ⌜ outcome o ≡ verdict (writeMessage k n m (now (destination .entry))) ⌝ }
     ensures content { λ o. ⌜ now (destination .exit) ≡ after (now (destination .entry)) (writeMessage k n m (now (destination .entry))) ⌝ }
 {
-    write_fields(Family::Messages, k, n, m.fields(), destination)
+    let f = m.fields();
+    let o = check_write(Family::Messages, k, n, f, destination.len());
+    f.put_unless_refused(o, destination);
+    o
 }

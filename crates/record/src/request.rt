@@ -4,9 +4,8 @@ ghost use mathlib.Core.Bool.{_&&_};
 ghost use Rattle.question.specs.Question.{after, verdict, outcome};
 ghost use Rattle.record.specs.Kind.{isRead, isWrite, sameWrite};
 ghost use Rattle.record.specs.Record.{requestIn, requestFields, requestAnswer, readRequest, writeRequest, blankRequest};
-use crate::check::FieldsRead;
-use crate::check::read_fields;
-use crate::check::write_fields;
+use crate::check::check_read;
+use crate::check::check_write;
 use crate::clock::Timestamp;
 use crate::fields::Fields;
 use crate::kind::Family;
@@ -93,9 +92,9 @@ impl Request {
 pub fn read_request(k: u8, n: u8, bytes: &[u8]) -> RequestRead
     ensures { λ r. ⌜ requestAnswer r ≡ readRequest k n (now (bytes .entry)) ⌝ }
 {
-    match read_fields(Family::Requests, k, n, bytes) {
-        FieldsRead::Accepted(f) => RequestRead::Accepted(Request::of_fields(f)),
-        FieldsRead::Refused(number) => RequestRead::Refused(number),
+    match check_read(Family::Requests, k, n, bytes) {
+        Outcome::Done => RequestRead::Accepted(Request::of_fields(Fields::of_bytes(bytes))),
+        Outcome::Refused(number) => RequestRead::Refused(number),
     }
 }
 
@@ -104,5 +103,8 @@ pub fn write_request(k: u8, n: u8, r: Request, destination: &mut [u8]) -> Outcom
     ensures answer { λ o. ⌜ outcome o ≡ verdict (writeRequest k n r (now (destination .entry))) ⌝ }
     ensures content { λ o. ⌜ now (destination .exit) ≡ after (now (destination .entry)) (writeRequest k n r (now (destination .entry))) ⌝ }
 {
-    write_fields(Family::Requests, k, n, r.fields(), destination)
+    let f = r.fields();
+    let o = check_write(Family::Requests, k, n, f, destination.len());
+    f.put_unless_refused(o, destination);
+    o
 }

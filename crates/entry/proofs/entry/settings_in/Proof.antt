@@ -11,11 +11,11 @@ shared-slice-read-t5 c = search needs
 shared-slice-read-t7 : tie.Need-shared-slice-read-t7
 shared-slice-read-t7 c = search needs
 
-number-at-requires : tie.Need-number-at-requires
-number-at-requires c κs = search needs
+number8-requires : tie.Need-number8-requires
+number8-requires c κs = search needs
 
 returns : tie.Need-returns
-returns c = rw (c .number-at .ensures .0)
+returns c = rw (c .number8 .ensures, c .before .before .before .before .before .pre)
 
 pub settings-in-spec : {M : Type 1} → statement M
 settings-in-spec =
@@ -24,5 +24,5 @@ settings-in-spec =
     shared-slice-read-t3
     shared-slice-read-t5
     shared-slice-read-t7
-    number-at-requires
+    number8-requires
     returns)

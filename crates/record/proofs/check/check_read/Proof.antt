@@ -1,19 +1,18 @@
--- The first questions are asked by themselves: on a yes, the fields are read and asked.
+-- The first questions are asked by themselves: on a yes, the fields are asked.
 use mathlib.Core.Path.{_≡_, sym, ap, _∙_}
-use Rattle.question.specs.Question.{given, ask, next, outcome}
+use Rattle.question.specs.Question.{given, worked, ask, next, outcome}
 use Rattle.record.specs.Layout.{fieldsOf}
-use Rattle.record.specs.Record.{fieldQuestions, readFields}
+use Rattle.record.specs.Record.{fieldQuestions, readQuestions}
 use Rattle.record.proofs.Reading.{read-length, read-next}
 use borrow.Author.Needs.{needs}
-use Rattle.record.proofs.check.read_fields.Statement.{statement}
-use Rattle.record.proofs.check.read_fields.Tie as tie
+use Rattle.record.proofs.check.check_read.Statement.{statement}
+use Rattle.record.proofs.check.check_read.Tie as tie
 
--- questions 1, 2 and 6, asked first, decide the answer
+-- questions 1, 2 and 6, asked first, decide
 decided : (c : tie.After-check-length) →
     let a = c .before .before .args in
-    let f = fieldsOf (a .bytes .now) in
-    next (outcome (c .check-length .result)) (ask (fieldQuestions (a .family) (a .k) (a .n) f) (given f))
-    ≡ readFields (a .family) (a .k) (a .n) (a .bytes .now)
+    next (outcome (c .check-length .result)) (ask (fieldQuestions (a .family) (a .k) (a .n) (fieldsOf (a .bytes .now))) (given worked))
+    ≡ ask (readQuestions (a .family) (a .k) (a .n) (a .bytes .now)) (given worked)
 decided c =
     let a = c .before .before .args in
     read-next (a .family) (a .k) (a .n) (a .bytes .now) (outcome (c .check-length .result)) (c .check-length .ensures)
@@ -30,28 +29,28 @@ of-bytes-requires c κs =
     let done = sym (c .before .before .check-length .ensures) ∙ ap outcome (c .enum-told .given .1) in
     read-length (a .family) (a .k) (a .n) (a .bytes .now) done
 
-accept-fields-requires : tie.Need-accept-fields-requires
-accept-fields-requires c κs = search needs
+check-fields-requires : tie.Need-check-fields-requires
+check-fields-requires c κs = search needs
 
 enum-known-number : tie.Need-enum-known-number
 enum-known-number c = search needs
 
 returns : tie.Need-returns
 returns c =
-    rw (c .accept-fields .ensures, c .before .of-bytes .ensures)
+    rw (c .check-fields .ensures, c .before .of-bytes .ensures)
     (rw (c .before .before .enum-told .given .1) at (decided (c .before .before .before .before)))
 
 returns-2 : tie.Need-returns-2
 returns-2 c = rw (c .before .number .given .1) at (decided (c .before .before .before))
 
-pub read-fields-spec : {M : Type 1} → statement M
-read-fields-spec =
+pub check-read-spec : {M : Type 1} → statement M
+check-read-spec =
     tie.close
     (tie.spec
     check-length-requires
     enum-told
     of-bytes-requires
-    accept-fields-requires
+    check-fields-requires
     enum-known-number
     returns
     returns-2)
