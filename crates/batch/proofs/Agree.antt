@@ -35,11 +35,6 @@ module _ (group : ℕ) (t : Timestamp) (p : Pending) (rest : List Pending) where
   pub size-step : (size : ℕ) → size + boolByte mine + length (requestsAt group t rest) ≡ size + length (requestsAt group t (p ∷ rest))
   size-step size = case mine (λ e. rw e (omega arith)) (λ e. rw e (omega arith))
 
--- a test counts for one at most
-pub byte-one : (b : Bool) → boolByte b ≤ 1
-byte-one true = omega arith
-byte-one false = omega arith
-
 -- ── unanimity ──
 
 module _ (first : Request) where

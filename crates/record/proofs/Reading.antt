@@ -32,27 +32,12 @@ module _ (family : Family) (k n : ℕ) where
       let parts = all-yes-parts (unitQuestions k n) (lengthQuestion bytes) (ask-all-yes (unitQuestions k n ++ lengthQuestion bytes) (given worked) e) in
       eqb-true (length bytes) recordSize (parts .1 .0)
 
-  -- then come those of the fields
-  pub read-next : (bytes : List ℕ) (alone : Answer Worked) →
+  -- then come those of the fields, and something is made of them
+  pub read-next : {A : Type 0} (of : Fields → A) (bytes : List ℕ) (alone : Answer Worked) →
       alone ≡ ask (unitQuestions k n ++ lengthQuestion bytes) (given worked) →
-      next alone (ask (fieldQuestions family k n (fieldsOf bytes)) (given worked)) ≡ ask (readQuestions family k n bytes) (given worked)
-  read-next bytes alone e = rw e (simp (ask-chain, append-assoc))
-
-  module _ (bytes : List ℕ) (alone : Answer Worked) (asked : alone ≡ ask (readQuestions family k n bytes) (given worked)) where
-    -- bytes that pass are 24
-    pub read-long : alone ≡ given worked → length bytes ≡ recordSize
-    read-long e =
-        let fields = fieldQuestions family k n (fieldsOf bytes) in
-        let all = ask-all-yes (readQuestions family k n bytes) (given worked) (sym asked ∙ e) in
-        eqb-true (length bytes) recordSize (all-yes-parts (unitQuestions k n) ((eqb (length bytes) recordSize else 6) ∷ fields) all .1 .0)
-
-    -- what is made of the fields, where they pass
-    pub read-as : {A : Type 0} (of : Fields → A) → next alone (given (of (fieldsOf bytes))) ≡ mapAnswer of (readFields family k n bytes)
-    unfolding readFields
-    read-as of = next-asked questions (given (of (fieldsOf bytes))) alone asked ∙ ask-map questions of (fieldsOf bytes)
-      where
-        questions : List Question
-        questions = readQuestions family k n bytes
+      next alone (ask (fieldQuestions family k n (fieldsOf bytes)) (given (of (fieldsOf bytes)))) ≡ mapAnswer of (readFields family k n bytes)
+  unfolding readFields
+  read-next of bytes alone e = rw (e, ← ask-map (readQuestions family k n bytes) of (fieldsOf bytes)) (simp (ask-chain, append-assoc))
 
   module _ (f : Fields) (destination : List ℕ) (alone : Answer Worked)
       (asked : alone ≡ ask (writeQuestions family k n f (length destination)) (given worked)) where

@@ -1,11 +1,11 @@
-// What is asked of a record that is read or written: one path for requests and messages.
+// What is asked of a record that is read or written, requests and messages alike.
 ghost use mathlib.Core.Path.{_≡_};
 ghost use mathlib.Core.List.{[], _∷_, _++_};
 ghost use lib.Dec.{eqb};
 ghost use Rattle.limits.specs.Limits.{recordSize};
 ghost use Rattle.question.specs.Question.{_else_, given, worked, ask, outcome, unitQuestions};
 ghost use Rattle.record.specs.Kind.{rowOf};
-ghost use Rattle.record.specs.Record.{hasSender, senderQuestions, allowsVariable, sparesZero, allowsValue, fieldQuestions, readQuestions, writeQuestions};
+ghost use Rattle.record.specs.Record.{hasSender, senderQuestions, allowsVariable, sparesZero, allowsValue, fieldQuestions};
 use crate::fields::Fields;
 use crate::kind::Family;
 use crate::kind::Row;
@@ -76,27 +76,8 @@ pub(crate) fn check_fields(family: Family, k: u8, n: u8, f: Fields) -> Outcome
 }
 
 // Questions 1, 2 and 6: a record to be read has 24 bytes.
-fn check_length(k: u8, n: u8, length: usize) -> Outcome
+pub(crate) fn check_length(k: u8, n: u8, length: usize) -> Outcome
     ensures { λ o. ⌜ outcome o ≡ ask (unitQuestions k n ++ ((eqb length recordSize else 6) ∷ [])) (given worked) ⌝ }
 {
     check_unit(k, n).ask(length == RECORD, 6)
-}
-
-// All questions of reading, in one place for both families.
-pub(crate) fn check_read(family: Family, k: u8, n: u8, bytes: &[u8]) -> Outcome
-    ensures { λ o. ⌜ outcome o ≡ ask (readQuestions family k n (now (bytes .entry))) (given worked) ⌝ }
-{
-    match check_length(k, n, bytes.len()) {
-        Outcome::Done => check_fields(family, k, n, Fields::of_bytes(bytes)),
-        Outcome::Refused(number) => Outcome::Refused(number),
-    }
-}
-
-// All questions of writing into a destination of a length.
-pub(crate) fn check_write(family: Family, k: u8, n: u8, f: Fields, length: usize) -> Outcome
-    ensures { λ o. ⌜ outcome o ≡ ask (writeQuestions family k n f length) (given worked) ⌝ }
-{
-    check_unit(k, n)
-        .then(check_fields(family, k, n, f))
-        .ask(RECORD <= length, 15)
 }

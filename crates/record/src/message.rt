@@ -1,14 +1,16 @@
 // Messages: a reply or a halt, from a replica to a process.
 ghost use mathlib.Core.Path.{_≡_};
-ghost use Rattle.question.specs.Question.{after, verdict, outcome};
-ghost use Rattle.record.specs.Record.{messageIn, messageFields, messageAnswer, readMessage, writeMessage, passes, blankMessage};
+ghost use Rattle.question.specs.Question.{given, ask, after, verdict, outcome};
+ghost use Rattle.record.specs.declared.kind.Family.the-variants.{Messages};
+ghost use Rattle.record.specs.Record.{fieldQuestions, messageIn, messageFields, messageAnswer, readMessage, writeMessage, passes, blankMessage};
 use crate::check::check_fields;
-use crate::check::check_read;
-use crate::check::check_write;
+use crate::check::check_length;
 use crate::clock::Timestamp;
 use crate::fields::Fields;
 use crate::kind::Family;
+use limits::RECORD;
 use question::Outcome;
+use question::check_unit;
 
 #[repr(C)]
 pub struct Message {
@@ -87,11 +89,21 @@ impl Message {
     }
 }
 
+// The fields as a message, where their questions are answered yes.
+fn accept_message(k: u8, n: u8, f: Fields) -> MessageRead
+    ensures { λ r. ⌜ messageAnswer r ≡ ask (fieldQuestions Messages k n f) (given (messageIn f)) ⌝ }
+{
+    match check_fields(Family::Messages, k, n, f) {
+        Outcome::Done => MessageRead::Accepted(Message::of_fields(f)),
+        Outcome::Refused(number) => MessageRead::Refused(number),
+    }
+}
+
 pub fn read_message(k: u8, n: u8, bytes: &[u8]) -> MessageRead
     ensures { λ r. ⌜ messageAnswer r ≡ readMessage k n (now (bytes .entry)) ⌝ }
 {
-    match check_read(Family::Messages, k, n, bytes) {
-        Outcome::Done => MessageRead::Accepted(Message::of_fields(Fields::of_bytes(bytes))),
+    match check_length(k, n, bytes.len()) {
+        Outcome::Done => accept_message(k, n, Fields::of_bytes(bytes)),
         Outcome::Refused(number) => MessageRead::Refused(number),
     }
 }
@@ -102,7 +114,8 @@ pub fn write_message(k: u8, n: u8, m: Message, destination: &mut [u8]) -> Outcom
     ensures content { λ o. ⌜ now (destination .exit) ≡ after (now (destination .entry)) (writeMessage k n m (now (destination .entry))) ⌝ }
 {
     let f = m.fields();
-    let o = check_write(Family::Messages, k, n, f, destination.len());
+    let asked = check_unit(k, n).then(check_fields(Family::Messages, k, n, f));
+    let o = asked.ask(RECORD <= destination.len(), 15);
     f.put_unless_refused(o, destination);
     o
 }

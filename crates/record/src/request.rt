@@ -1,17 +1,20 @@
 // Requests: a read or a write, from a process to the replicas.
 ghost use mathlib.Core.Path.{_≡_};
 ghost use mathlib.Core.Bool.{_&&_};
-ghost use Rattle.question.specs.Question.{after, verdict, outcome};
+ghost use Rattle.question.specs.Question.{given, ask, after, verdict, outcome};
 ghost use Rattle.record.specs.Kind.{isRead, isWrite, sameWrite};
-ghost use Rattle.record.specs.Record.{requestIn, requestFields, requestAnswer, readRequest, writeRequest, blankRequest};
-use crate::check::check_read;
-use crate::check::check_write;
+ghost use Rattle.record.specs.declared.kind.Family.the-variants.{Requests};
+ghost use Rattle.record.specs.Record.{fieldQuestions, requestIn, requestFields, requestAnswer, readRequest, writeRequest, blankRequest};
+use crate::check::check_fields;
+use crate::check::check_length;
 use crate::clock::Timestamp;
 use crate::fields::Fields;
 use crate::kind::Family;
 use crate::kind::READ;
 use crate::kind::WRITE;
+use limits::RECORD;
 use question::Outcome;
+use question::check_unit;
 
 #[repr(C)]
 pub struct Request {
@@ -89,11 +92,21 @@ impl Request {
     }
 }
 
+// The fields as a request, where their questions are answered yes.
+fn accept_request(k: u8, n: u8, f: Fields) -> RequestRead
+    ensures { λ r. ⌜ requestAnswer r ≡ ask (fieldQuestions Requests k n f) (given (requestIn f)) ⌝ }
+{
+    match check_fields(Family::Requests, k, n, f) {
+        Outcome::Done => RequestRead::Accepted(Request::of_fields(f)),
+        Outcome::Refused(number) => RequestRead::Refused(number),
+    }
+}
+
 pub fn read_request(k: u8, n: u8, bytes: &[u8]) -> RequestRead
     ensures { λ r. ⌜ requestAnswer r ≡ readRequest k n (now (bytes .entry)) ⌝ }
 {
-    match check_read(Family::Requests, k, n, bytes) {
-        Outcome::Done => RequestRead::Accepted(Request::of_fields(Fields::of_bytes(bytes))),
+    match check_length(k, n, bytes.len()) {
+        Outcome::Done => accept_request(k, n, Fields::of_bytes(bytes)),
         Outcome::Refused(number) => RequestRead::Refused(number),
     }
 }
@@ -104,7 +117,8 @@ pub fn write_request(k: u8, n: u8, r: Request, destination: &mut [u8]) -> Outcom
     ensures content { λ o. ⌜ now (destination .exit) ≡ after (now (destination .entry)) (writeRequest k n r (now (destination .entry))) ⌝ }
 {
     let f = r.fields();
-    let o = check_write(Family::Requests, k, n, f, destination.len());
+    let asked = check_unit(k, n).then(check_fields(Family::Requests, k, n, f));
+    let o = asked.ask(RECORD <= destination.len(), 15);
     f.put_unless_refused(o, destination);
     o
 }

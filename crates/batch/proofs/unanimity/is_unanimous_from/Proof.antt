@@ -9,7 +9,8 @@ use borrow.Author.Needs.{needs}
 use Rattle.batch.specs.State.{waiting, free}
 use Rattle.batch.specs.Head.{requestsAt}
 use Rattle.batch.proofs.Left.{left-next, left-none}
-use Rattle.batch.proofs.Agree.{byte-one, agree, size-step, agree-step, agree-unanimous}
+use Rattle.question.proofs.Tests.{byte-one}
+use Rattle.batch.proofs.Agree.{agree, size-step, agree-step, agree-unanimous}
 use Rattle.batch.proofs.unanimity.is_unanimous_from.Statement.{statement}
 use Rattle.batch.proofs.unanimity.is_unanimous_from.Tie as tie
 
