@@ -1,8 +1,8 @@
 // A ballot: what was heard so far of each replica.
+ghost use Prim.Native.Nat.{_≤_};
 ghost use mathlib.Core.Path.{_≡_};
-ghost use mathlib.Core.Bool.{true};
 ghost use Rattle.rules.specs.Vote.{answers, haltsFor};
-ghost use Rattle.ballot.specs.Sets.{isReplica, lacks};
+ghost use Rattle.ballot.specs.Sets.{lastReplica};
 ghost use Rattle.ballot.specs.Ballot.{messageOf, newBallot, noteReply, noteHalt, hear};
 use crate::sets::LAST_REPLICA;
 use crate::sets::is_replica;
@@ -64,7 +64,7 @@ impl Ballot {
 
     // The first reply of a replica.
     fn note_reply(self, replica: u8, value: u32) -> Ballot
-        requires { ⌜ lacks (self .heard) replica ≡ true ⌝ }
+        requires { ⌜ (1 ≤ replica) × (replica ≤ lastReplica) ⌝ }
         ensures { λ b. ⌜ b ≡ noteReply self replica value ⌝ }
     {
         let i = replica as usize;
@@ -75,7 +75,7 @@ impl Ballot {
     }
 
     fn note_halt(self, replica: u8) -> Ballot
-        requires { ⌜ isReplica replica ≡ true ⌝ }
+        requires { ⌜ (1 ≤ replica) × (replica ≤ lastReplica) ⌝ }
         ensures { λ b. ⌜ b ≡ noteHalt self replica ⌝ }
     {
         let mut next = self;

@@ -27,7 +27,7 @@ use denote.Enum.Laws as EL
 use denote.Struct.Laws as LL
 use denote.Triple.Statement.{Triple}
 use denote.Triple.Entry.{Args, Vals, onEntry}
-use denote.Triple.Table.{entered, cited}
+use denote.Triple.Table.{cited}
 use Rattle.record.proofs.message.Message as T
 use Rattle.rules.specs.declared.Query.{Query}
 use Rattle.rules.proofs.Query as Q
@@ -104,13 +104,12 @@ pub count-halts-spec : {M : Type 1} → stated.statement M
 unfolding code.routine tablesOf
 count-halts-spec 𝓤 H 𝓜 𝓖 𝓡 =
     let A = 𝓖 .A in
-    let 𝓣 = tables 𝓤 H 𝓜 𝓡 code.env in
-    let c = f.clauses 𝓤 H A (𝓜 .mem) (𝓡 .run) in
-    entered 𝓤 H (ContractOf 𝓤 H A f.ended c) (𝓣 .C) (𝓣 .Λ) #count-halts code.function (code.unfolded 𝓤 H 𝓜 𝓡)
-    (walked 𝓤 H A f.ended c (WpFn 𝓤 H (𝓣 .C) (𝓣 .Λ) code.function) (λ κs. (uint-vals w8, (uint-vals w8, (uint-vals w8, (uint-vals w8, (slice-vals, tt))))))
+    let 𝓣 = tablesOf 𝓤 H 𝓜 (tables 𝓤 H 𝓜 𝓡 code.env) in
+    walked 𝓤 H A f.ended (f.clauses 𝓤 H A (𝓜 .mem) (𝓡 .run)) (𝓣 .C) (𝓣 .Λ) #count-halts code.function (code.unfolded 𝓤 H 𝓜 𝓡)
+    (λ κs. (uint-vals w8, (uint-vals w8, (uint-vals w8, (uint-vals w8, (slice-vals, tt))))))
     (λ κs. (uint-tells w8, (uint-tells w8, (uint-tells w8, (uint-tells w8, (shr-slice-tells (named 0) (κs .0) T.the-row, tt))))))
-    (λ κs qs bounds a g are. walk 𝓤 H A (givenOf 𝓤 H 𝓜 𝓖) (𝓜 .mem) (𝓡 .run) (tablesOf 𝓤 H 𝓜 𝓣)
+    (λ κs qs bounds a g are. walk 𝓤 H A (givenOf 𝓤 H 𝓜 𝓖) (𝓜 .mem) (𝓡 .run) 𝓣
     (cited 𝓤 H (ContractOf 𝓤 H A query.ended (query.clauses 𝓤 H A (𝓜 .mem) (𝓡 .run))) 𝓜 𝓡 code.env #halt-query query-def.routine code.calls-vote·tally·halt-query (query-thm.met 𝓤 H 𝓜 𝓖 𝓡))
     (cited 𝓤 H (ContractOf 𝓤 H A tally.ended (tally.clauses 𝓤 H A (𝓜 .mem) (𝓡 .run))) 𝓜 𝓡 code.env #tally tally-def.routine code.calls-vote·tally·tally (tally-thm.met 𝓤 H 𝓜 𝓖 𝓡))
     (cited 𝓤 H (ContractOf 𝓤 H A answer.ended (answer.clauses 𝓤 H A (𝓜 .mem) (𝓡 .run))) 𝓜 𝓡 code.env #answer-halts answer-def.routine code.calls-ballot·ballot·Ballot·answer-halts (answer-thm.met 𝓤 H 𝓜 𝓖 𝓡))
-    (κs .0) (qs .0) (a .0) (a .1 .0) (a .1 .1 .0) (a .1 .1 .1 .0) (a .1 .1 .1 .1 .0) (are .0 .1) (are .1 .0 .1) (are .1 .1 .0 .1) (are .1 .1 .1 .0 .1) (are .1 .1 .1 .1 .0 .0 .1)))
+    (κs .0) (qs .0) (a .0) (a .1 .0) (a .1 .1 .0) (a .1 .1 .1 .0) (a .1 .1 .1 .1 .0) (are .0 .1) (are .1 .0 .1) (are .1 .1 .0 .1) (are .1 .1 .1 .0 .1) (are .1 .1 .1 .1 .0 .0 .1))

@@ -42,7 +42,7 @@ use denote.Struct.Steps.{spelt}
 use denote.Struct.Laws as LL
 use denote.Triple.Statement.{Contract, Triple}
 use denote.Triple.Entry.{Args, Vals, onEntry}
-use denote.Triple.Table.{entered, cited}
+use denote.Triple.Table.{cited}
 use Rattle.limits.specs.Limits.{maxList}
 use Rattle.question.proofs.Tests.{case}
 use Rattle.record.specs.declared.message.Message.{Message}
@@ -177,12 +177,11 @@ pub tally-in-spec : {M : Type 1} → stated.statement M
 unfolding code.routine tablesOf
 tally-in-spec 𝓤 H 𝓜 𝓖 𝓡 =
     let A = 𝓖 .A in
-    let 𝓣 = tables 𝓤 H 𝓜 𝓡 code.env in
-    let c = f.clauses 𝓤 H A (𝓜 .mem) (𝓡 .run) in
-    entered 𝓤 H (ContractOf 𝓤 H A f.ended c) (𝓣 .C) (𝓣 .Λ) #tally-in code.function (code.unfolded 𝓤 H 𝓜 𝓡)
-    (walked 𝓤 H A f.ended c (WpFn 𝓤 H (𝓣 .C) (𝓣 .Λ) code.function) (λ κs. (uint-vals w8, (uint-vals w8, (LL.vals Q.the-type Q′.the-laws, (avals, (uint-vals w64, tt))))))
+    let 𝓣 = tablesOf 𝓤 H 𝓜 (tables 𝓤 H 𝓜 𝓡 code.env) in
+    walked 𝓤 H A f.ended (f.clauses 𝓤 H A (𝓜 .mem) (𝓡 .run)) (𝓣 .C) (𝓣 .Λ) #tally-in code.function (code.unfolded 𝓤 H 𝓜 𝓡)
+    (λ κs. (uint-vals w8, (uint-vals w8, (LL.vals Q.the-type Q′.the-laws, (avals, (uint-vals w64, tt))))))
     (λ κs. (uint-tells w8, (uint-tells w8, (LL.tells Q.the-type Q′.the-laws, (array-tells T.the-row tvals (LL.tells T.the-type T′.the-laws) N, (uint-tells w64, tt))))))
-    (λ κs qs bounds a g are. walk 𝓤 H A (givenOf 𝓤 H 𝓜 𝓖) (𝓜 .mem) (𝓡 .run) (tablesOf 𝓤 H 𝓜 𝓣)
+    (λ κs qs bounds a g are. walk 𝓤 H A (givenOf 𝓤 H 𝓜 𝓖) (𝓜 .mem) (𝓡 .run) 𝓣
     (cited 𝓤 H (ContractOf 𝓤 H A listed.ended (listed.clauses 𝓤 H A (𝓜 .mem) (𝓡 .run))) 𝓜 𝓡 code.env #listed listed-def.routine code.calls-vote·tally·listed (listed-thm.met 𝓤 H 𝓜 𝓖 𝓡))
     (cited 𝓤 H (ContractOf 𝓤 H A tally.ended (tally.clauses 𝓤 H A (𝓜 .mem) (𝓡 .run))) 𝓜 𝓡 code.env #tally tally-def.routine code.calls-vote·tally·tally (tally-thm.met 𝓤 H 𝓜 𝓖 𝓡))
-    (a .0) (a .1 .0) (a .1 .1 .0) (a .1 .1 .1 .0) (a .1 .1 .1 .1 .0) (are .0 .1) (are .1 .0 .1) (are .1 .1 .0) (are .1 .1 .1 .0) (are .1 .1 .1 .1 .0 .1)))
+    (a .0) (a .1 .0) (a .1 .1 .0) (a .1 .1 .1 .0) (a .1 .1 .1 .1 .0) (are .0 .1) (are .1 .0 .1) (are .1 .1 .0) (are .1 .1 .1 .0) (are .1 .1 .1 .1 .0 .1))

@@ -2,14 +2,15 @@ use Prim.Native.Nat.{ℕ}
 use mathlib.Core.Path.{_≡_, sym, _∙_}
 use mathlib.Core.Bool.{Bool, true, false, _&&_}
 use borrow.Author.Needs.{needs}
-use Rattle.question.proofs.Tests.{both}
+use Rattle.question.proofs.Tests.{both, within-true}
 use Rattle.record.specs.declared.message.Message.{Message}
 use Rattle.record.specs.Record.{passes}
 use Rattle.rules.specs.Vote.{answers, haltsFor, countsFor, countsAsHalt}
 use Rattle.rules.specs.declared.Query.{Query}
-use Rattle.ballot.specs.Sets.{isReplica, lacks}
+use Rattle.ballot.specs.Sets.{lastReplica, isReplica, lacks}
 use Rattle.ballot.specs.Ballot.{noteReply, noteHalt, hear}
 use Rattle.ballot.specs.declared.ballot.Ballot.{Ballot}
+use Rattle.ballot.proofs.Heard.{lacks-parts}
 use Rattle.ballot.proofs.ballot.Ballot.hear.Statement.{statement}
 use Rattle.ballot.proofs.ballot.Ballot.hear.Tie as tie
 
@@ -40,7 +41,9 @@ lacks-requires c κs = search needs
 note-reply-requires : tie.Need-note-reply-requires
 note-reply-requires c κs =
     let l = c .before in
-    sym (l .lacks .ensures) ∙ both (l .before .before .passes .result && l .before .answers .result) (l .lacks .result) (c .if1 .taken) .1
+    let a = l .before .before .before .args in
+    let free = both (l .before .before .passes .result && l .before .answers .result) (l .lacks .result) (c .if1 .taken) .1 in
+    within-true 1 lastReplica _ (lacks-parts (a .self .heard) (a .replica) (sym (l .lacks .ensures) ∙ free) .0)
 
 returns : tie.Need-returns
 returns c =
@@ -58,8 +61,8 @@ note-halt-requires : tie.Need-note-halt-requires
 note-halt-requires c κs =
     let r = c .before in
     let h = r .before in
-    sym (r .is-replica .ensures)
-    ∙ both (h .before .before .before .before .passes .result && h .halts-for .result) (r .is-replica .result) (c .if2 .taken) .1
+    let numbered = both (h .before .before .before .before .passes .result && h .halts-for .result) (r .is-replica .result) (c .if2 .taken) .1 in
+    within-true 1 lastReplica _ (sym (r .is-replica .ensures) ∙ numbered)
 
 returns-2 : tie.Need-returns-2
 returns-2 c =
