@@ -56,13 +56,13 @@ module _ (k n : ℕ) (q : Query) where
   -- what a message leaves: a reply noted, a halt noted, or the ballot
   heard-cases : (b : Ballot) (m : Message) (P : Ballot → Type 0)
       → ((replying m && lacks (b .heard) (m .replica)) ≡ true → P (noteReply b (m .replica) (m .value)))
-      → ((replying m && lacks (b .heard) (m .replica)) ≡ false → (halting m && isReplica (m .replica)) ≡ true → P (noteHalt b (m .replica)))
-      → ((replying m && lacks (b .heard) (m .replica)) ≡ false → (halting m && isReplica (m .replica)) ≡ false → P b)
+      → ((replying m && lacks (b .heard) (m .replica)) ≡ false → (halting m && lacks (b .halted) (m .replica)) ≡ true → P (noteHalt b (m .replica)))
+      → ((replying m && lacks (b .heard) (m .replica)) ≡ false → (halting m && lacks (b .halted) (m .replica)) ≡ false → P b)
       → P (hear k n q b m)
   unfolding hear
   heard-cases b m P f g h = case (replying m && lacks (b .heard) (m .replica))
       (λ e. rw e (f e))
-      (λ e. case (halting m && isReplica (m .replica)) (λ d. rw (e, d) (g e d)) (λ d. rw (e, d) (h e d)))
+      (λ e. case (halting m && lacks (b .halted) (m .replica)) (λ d. rw (e, d) (g e d)) (λ d. rw (e, d) (h e d)))
 
   heard-sized : (b : Ballot) → Sized b → (m : Message) → Sized (hear k n q b m)
   heard-sized b sized m =
@@ -72,14 +72,17 @@ module _ (k n : ℕ) (q : Query) where
   heard-short b m = heard-cases b m (λ c. c .short ≡ b .short) (λ e. refl) (λ e d. refl) (λ e d. refl)
 
   module _ (i : ℕ) (low : 1 ≤ i) (high : i ≤ lastReplica) (b : Ballot) (m : Message) where
-    -- a reply that is not noted is of another replica, or its first came
+    -- what is not noted is of another replica, or came before
+    not-noted : (set : ℕ) (counts : Bool) → (counts && lacks set (m .replica)) ≡ false → has set i ≡ false → (counts && eqb (m .replica) i) ≡ false
+    not-noted set counts e h = case (counts && eqb (m .replica) i)
+        (λ d.
+        let a = both counts (eqb (m .replica) i) d in
+        true-not-false (counts && lacks set (m .replica)) (rw (a .0, eqb-true (m .replica) i (a .1), in-within 1 lastReplica i low high, h)) e)
+        (λ d. d)
+
     later-reply : (replying m && lacks (b .heard) (m .replica)) ≡ false → (v : ℕ) (other : Bool)
         → noted b v i other ≡ noted b v i (cond (replying m && eqb (m .replica) i) (eqb (m .value) v) other)
-    later-reply e v other = case (has (b .heard) i) (λ h. rw h) (λ h. rw h (case (replying m && eqb (m .replica) i)
-        (λ d.
-        let a = both (replying m) (eqb (m .replica) i) d in
-        true-not-false (replying m && lacks (b .heard) (m .replica)) (rw (a .0, eqb-true (m .replica) i (a .1), in-within 1 lastReplica i low high, h)) e)
-        (λ d. rw d)))
+    later-reply e v other = case (has (b .heard) i) (λ h. rw h) (λ h. rw (h, not-noted (b .heard) (replying m) e h))
 
     first-reply : Sized b → (replying m && lacks (b .heard) (m .replica)) ≡ true → (v : ℕ) (other : Bool)
         → noted (noteReply b (m .replica) (m .value)) v i other ≡ noted b v i (cond (replying m && eqb (m .replica) i) (eqb (m .value) v) other)
@@ -103,13 +106,9 @@ module _ (k n : ℕ) (q : Query) where
     heard-halted = heard-cases b m (λ c. has (c .halted) i ≡ has (b .halted) i || (halting m && eqb (m .replica) i))
         (λ e. rw (reply-no-halt m (both (replying m) (lacks (b .heard) (m .replica)) e .0)) (sym (or-false (has (b .halted) i))))
         (λ e d.
-        let a = both (halting m) (isReplica (m .replica)) d in
-        rw (a .0) (has-with (b .halted) (m .replica) i (within-true 1 lastReplica (m .replica) (a .1) .0)))
-        (λ e d. case (halting m && eqb (m .replica) i)
-        (λ f.
-        let a = both (halting m) (eqb (m .replica) i) f in
-        true-not-false (halting m && isReplica (m .replica)) (rw (a .0, eqb-true (m .replica) i (a .1), in-within 1 lastReplica i low high)) d)
-        (λ f. rw f (sym (or-false (has (b .halted) i)))))
+        let a = both (halting m) (lacks (b .halted) (m .replica)) d in
+        rw (a .0) (has-with (b .halted) (m .replica) i (within-true 1 lastReplica (m .replica) (lacks-parts (b .halted) (m .replica) (a .1) .0) .0)))
+        (λ e d. case (has (b .halted) i) (λ h. rw h) (λ h. rw (h, not-noted (b .halted) (halting m) d h)))
 
   -- ── message after message ──
 

@@ -5,7 +5,6 @@ ghost use Rattle.rules.specs.Vote.{answers, haltsFor};
 ghost use Rattle.ballot.specs.Sets.{lastReplica};
 ghost use Rattle.ballot.specs.Ballot.{messageOf, newBallot, noteReply, noteHalt, hear};
 use crate::sets::LAST_REPLICA;
-use crate::sets::is_replica;
 use crate::sets::lacks;
 use crate::sets::with;
 use limits::MAX_LIST;
@@ -62,7 +61,7 @@ impl Ballot {
         }
     }
 
-    // The first reply of a replica.
+    // The first reply of a replica, and its first halt.
     fn note_reply(self, replica: u8, value: u32) -> Ballot
         requires { ⌜ (1 ≤ replica) × (replica ≤ lastReplica) ⌝ }
         ensures { λ b. ⌜ b ≡ noteReply self replica value ⌝ }
@@ -113,7 +112,7 @@ impl Ballot {
         if passes & answers(q, m) & lacks(self.heard, replica) {
             return self.note_reply(replica, value);
         }
-        if passes & halts_for(q.group, q.process, m) & is_replica(replica) {
+        if passes & halts_for(q.group, q.process, m) & lacks(self.halted, replica) {
             return self.note_halt(replica);
         }
         self
