@@ -9,14 +9,13 @@ use native.Mathlib.Omega.{arith}
 use lib.Dec.{eqb, leb}
 use lib.ListN.{length, getD, drop, length-set}
 use lib.Seq.{getD-set-same, getD-set-other, drop-cons, drop-length}
-use borrow.Author.Tests.{eqb-true, eqb-false, eq-eqb, ne-eqb, not-true}
+use borrow.Author.Tests.{eqb-true, eqb-false, ne-eqb, not-true}
 use Rattle.limits.specs.Limits.{maxList}
 use Rattle.question.proofs.Tests.{case, true-not-false, both, within-true, in-within}
 use Rattle.record.specs.Kind.{reply, halt}
-use Rattle.record.specs.Record.{passes}
 use Rattle.record.specs.declared.message.Message.{Message}
 use Rattle.rules.specs.Lists.{some}
-use Rattle.rules.specs.Vote.{answers, haltsFor, countsFor, countsAsHalt, says}
+use Rattle.rules.specs.Vote.{countsFor, countsAsHalt, says}
 use Rattle.rules.specs.declared.Query.{Query}
 use Rattle.ballot.specs.Sets.{lastReplica, isReplica, has, lacks}
 use Rattle.ballot.specs.Ballot.{newBallot, noteReply, noteHalt, hear, hearAll, ballotOf, valueOf, gave}

@@ -10,7 +10,7 @@ use base.Logic.{ent, sep}
 use base.Fml.{Lft, Share, Fml, ftrue, flft}
 use prog.Wp.{Heap}
 use ghost.Atoms.{Atoms, sem}
-use types.Kit.{Given, ‵, raw, _⊛_, _$_, _∵_, !, qed, move, split, join, fjoin, frame, done}
+use types.Kit.{Given, ‵, _⊛_, _$_, _∵_, !, qed, move, join, fjoin, frame, done}
 use denote.RattleType.{owns}
 use denote.Laws.{Is}
 use denote.Plain.{uint-makes}

@@ -14,11 +14,10 @@ use prog.Wp.{Heap, WpFn, Tables}
 use ghost.Atoms.{Atoms}
 use contract.Monad.{Fun, factI}
 use contract.Running.{givenOf, tables, tablesOf}
-use types.Kit.{Given, ‵, _⊛_, _$_, _∵_, !, qed, by, move, keep, drop, split, join, fsplit}
+use types.Kit.{Given, ‵, _⊛_, _$_, _∵_, !, qed, by, move, keep, drop, join, fsplit}
 use types.Run.{look, init, stop, from, and-then, no-more, land, returns, enter, alloc1, alloc0, params1, pass1, pass0, free0}
 use sound.WpLaws.{fmOf}
 use denote.RattleType.{owns}
-use denote.Laws.{Is}
 use denote.Plain.{uint-vals, uint-tells}
 use denote.Builtin.{u8}
 use denote.Slice.{sliceVal, ShrSlice, Room, slice-vals, shr-slice-tells}
@@ -43,7 +42,7 @@ use Rattle.ballot.proofs.ballot.Ballot.answer_halts as answer
 use Rattle.ballot.proofs.ballot.Ballot.answer_halts.Symbol as answer-def
 use Rattle.ballot.proofs.ballot.Ballot.answer_halts.Symbol.{name as #answer-halts}
 use Rattle.ballot.proofs.ballot.Ballot.answer_halts.Met as answer-thm
-use Rattle.vote.proofs.Tallied.{Own, tally-asked}
+use Rattle.vote.proofs.Tallied.{tally-asked}
 use Rattle.vote.proofs.Walks.{Quiets, ContractOf, walked, ends, struct-plain, plain-asked, at, gone, calls-told}
 use Rattle.vote.proofs.tally.halt_query as query
 use Rattle.vote.proofs.tally.halt_query.Symbol as query-def
