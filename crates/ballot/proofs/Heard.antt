@@ -18,7 +18,7 @@ use Rattle.rules.specs.Lists.{some}
 use Rattle.rules.specs.Vote.{countsFor, countsAsHalt, says}
 use Rattle.rules.specs.declared.Query.{Query}
 use Rattle.ballot.specs.Sets.{lastReplica, isReplica, has, lacks}
-use Rattle.ballot.specs.Ballot.{newBallot, noteReply, noteHalt, hear, hearAll, ballotOf, valueOf, gave}
+use Rattle.ballot.specs.Ballot.{newBallot, noteReply, noteHalt, isFirstReply, isFirstHalt, hear, hearAll, ballotOf, valueOf, gave}
 use Rattle.ballot.specs.declared.ballot.Ballot.{Ballot}
 use Rattle.ballot.proofs.Bits.{has-none, has-with}
 
@@ -30,7 +30,7 @@ Sized b = lastReplica < length (b .values)
 abbrev noted : Ballot → ℕ → ℕ → Bool → Bool
 noted b value replica other = cond (has (b .heard) replica) (eqb (valueOf b replica) value) other
 
--- a set could have a replica that it has not
+-- what it is to lack a number: it is a replica's, and the set has it not
 pub lacks-parts : (set replica : ℕ) → lacks set replica ≡ true → (isReplica replica ≡ true) × (has set replica ≡ false)
 lacks-parts set replica e =
     let a = both (isReplica replica) (not (has set replica)) e in
@@ -54,14 +54,14 @@ module _ (k n : ℕ) (q : Query) where
 
   -- what a message leaves: a reply noted, a halt noted, or the ballot
   heard-cases : (b : Ballot) (m : Message) (P : Ballot → Type 0)
-      → ((replying m && lacks (b .heard) (m .replica)) ≡ true → P (noteReply b (m .replica) (m .value)))
-      → ((replying m && lacks (b .heard) (m .replica)) ≡ false → (halting m && lacks (b .halted) (m .replica)) ≡ true → P (noteHalt b (m .replica)))
-      → ((replying m && lacks (b .heard) (m .replica)) ≡ false → (halting m && lacks (b .halted) (m .replica)) ≡ false → P b)
+      → (isFirstReply k n q b m ≡ true → P (noteReply b (m .replica) (m .value)))
+      → (isFirstReply k n q b m ≡ false → isFirstHalt k n q b m ≡ true → P (noteHalt b (m .replica)))
+      → (isFirstReply k n q b m ≡ false → isFirstHalt k n q b m ≡ false → P b)
       → P (hear k n q b m)
   unfolding hear
-  heard-cases b m P f g h = case (replying m && lacks (b .heard) (m .replica))
+  heard-cases b m P f g h = case (isFirstReply k n q b m)
       (λ e. rw e (f e))
-      (λ e. case (halting m && lacks (b .halted) (m .replica)) (λ d. rw (e, d) (g e d)) (λ d. rw (e, d) (h e d)))
+      (λ e. case (isFirstHalt k n q b m) (λ d. rw (e, d) (g e d)) (λ d. rw (e, d) (h e d)))
 
   heard-sized : (b : Ballot) → Sized b → (m : Message) → Sized (hear k n q b m)
   heard-sized b sized m =
@@ -79,11 +79,11 @@ module _ (k n : ℕ) (q : Query) where
         true-not-false (counts && lacks set (m .replica)) (rw (a .0, eqb-true (m .replica) i (a .1), in-within 1 lastReplica i low high, h)) e)
         (λ d. d)
 
-    later-reply : (replying m && lacks (b .heard) (m .replica)) ≡ false → (v : ℕ) (other : Bool)
+    later-reply : isFirstReply k n q b m ≡ false → (v : ℕ) (other : Bool)
         → noted b v i other ≡ noted b v i (cond (replying m && eqb (m .replica) i) (eqb (m .value) v) other)
     later-reply e v other = case (has (b .heard) i) (λ h. rw h) (λ h. rw (h, not-noted (b .heard) (replying m) e h))
 
-    first-reply : Sized b → (replying m && lacks (b .heard) (m .replica)) ≡ true → (v : ℕ) (other : Bool)
+    first-reply : Sized b → isFirstReply k n q b m ≡ true → (v : ℕ) (other : Bool)
         → noted (noteReply b (m .replica) (m .value)) v i other ≡ noted b v i (cond (replying m && eqb (m .replica) i) (eqb (m .value) v) other)
     first-reply sized e v other =
         let a = both (replying m) (lacks (b .heard) (m .replica)) e in

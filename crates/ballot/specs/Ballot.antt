@@ -46,11 +46,18 @@ noteReply b replica value = record { values = set (b .values) replica value; hea
 abbrev pub noteHalt : Ballot → ℕ → Ballot
 noteHalt b replica = record { values = b .values; heard = b .heard; halted = with (b .halted) replica; short = b .short }
 
--- a message: what counts of it is noted, the first reply of a replica and its first halt. A number that no replica has changes nothing
+-- a reply that counts, the first of its replica. A number that no replica has is none's
+abbrev pub isFirstReply : ℕ → ℕ → Query → Ballot → Message → Bool
+isFirstReply k n q b m = countsFor k n q m && lacks (b .heard) (m .replica)
+
+-- a halt that counts, the first of its replica
+abbrev pub isFirstHalt : ℕ → ℕ → Query → Ballot → Message → Bool
+isFirstHalt k n q b m = countsAsHalt k n (q .group) (q .process) m && lacks (b .halted) (m .replica)
+
+-- a message: these are noted, and all else changes nothing
 unfoldable pub hear : ℕ → ℕ → Query → Ballot → Message → Ballot
 hear k n q b m =
-    cond (countsFor k n q m && lacks (b .heard) (m .replica)) (noteReply b (m .replica) (m .value))
-    (cond (countsAsHalt k n (q .group) (q .process) m && lacks (b .halted) (m .replica)) (noteHalt b (m .replica)) b)
+    cond (isFirstReply k n q b m) (noteReply b (m .replica) (m .value)) (cond (isFirstHalt k n q b m) (noteHalt b (m .replica)) b)
 
 -- the messages of a list, in their order
 unfoldable pub hearAll : ℕ → ℕ → Query → Ballot → List Message → Ballot

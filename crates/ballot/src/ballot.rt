@@ -20,12 +20,12 @@ const PLACES: usize = LAST_REPLICA + 1;
 
 pub struct Ballot {
     // The value of each replica's first counting reply, at the index that is its number.
-    pub values: [u32; PLACES],
+    pub(crate) values: [u32; PLACES],
     // Sets of replicas (src/sets.rt): whose counting reply came, and whose counting halt.
-    pub heard: u8,
-    pub halted: u8,
+    pub(crate) heard: u8,
+    pub(crate) halted: u8,
     // Question 16: the list is no longer than it may be.
-    pub short: bool,
+    pub(crate) short: bool,
 }
 
 // The reply asked for: it matches all four.

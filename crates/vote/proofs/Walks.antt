@@ -33,9 +33,9 @@ use denote.Triple.Spec.{Back, tripleOf}
 use denote.Triple.Statement.{Contract, Triple}
 use denote.Triple.Table.{entered}
 
--- ── the end of a proof ──
+-- ── the beginning and the end ──
 
--- a parameter that is as it was passed, of which nothing is said
+-- a parameter that is left as it was passed: nothing is said of it at the end
 abbrev Quiet : {n : ℕ} → Slot n → Kept → Type 1
 Quiet {n} s k = (κs : Lfts n) (x : s .row κs .Denot) → (w : Last (s .row κs .exit k) x) × (left (s .row κs .exit k) x w ≡ ftrue)
 
