@@ -9,17 +9,16 @@ use native.Mathlib.Omega.{arith}
 use lib.Dec.{eqb, leb}
 use lib.ListN.{length, getD, drop, length-set}
 use lib.Seq.{getD-set-same, getD-set-other, drop-cons, drop-length}
-use borrow.Author.Tests.{eqb-true, eqb-false, eq-eqb, ne-eqb, not-true}
+use borrow.Author.Tests.{eqb-true, eqb-false, ne-eqb, not-true}
 use Rattle.limits.specs.Limits.{maxList}
 use Rattle.question.proofs.Tests.{case, true-not-false, both, within-true, in-within}
 use Rattle.record.specs.Kind.{reply, halt}
-use Rattle.record.specs.Record.{passes}
 use Rattle.record.specs.declared.message.Message.{Message}
 use Rattle.rules.specs.Lists.{some}
-use Rattle.rules.specs.Vote.{answers, haltsFor, countsFor, countsAsHalt, says}
+use Rattle.rules.specs.Vote.{countsFor, countsAsHalt, says}
 use Rattle.rules.specs.declared.Query.{Query}
 use Rattle.ballot.specs.Sets.{lastReplica, isReplica, has, lacks}
-use Rattle.ballot.specs.Ballot.{newBallot, noteReply, noteHalt, hear, hearAll, ballotOf, valueOf, gave}
+use Rattle.ballot.specs.Ballot.{newBallot, noteReply, noteHalt, isFirstReply, isFirstHalt, hear, hearAll, ballotOf, valueOf, gave}
 use Rattle.ballot.specs.declared.ballot.Ballot.{Ballot}
 use Rattle.ballot.proofs.Bits.{has-none, has-with}
 
@@ -31,7 +30,7 @@ Sized b = lastReplica < length (b .values)
 abbrev noted : Ballot → ℕ → ℕ → Bool → Bool
 noted b value replica other = cond (has (b .heard) replica) (eqb (valueOf b replica) value) other
 
--- a set could have a replica that it has not
+-- what it is to lack a number: it is a replica's, and the set has it not
 pub lacks-parts : (set replica : ℕ) → lacks set replica ≡ true → (isReplica replica ≡ true) × (has set replica ≡ false)
 lacks-parts set replica e =
     let a = both (isReplica replica) (not (has set replica)) e in
@@ -55,14 +54,14 @@ module _ (k n : ℕ) (q : Query) where
 
   -- what a message leaves: a reply noted, a halt noted, or the ballot
   heard-cases : (b : Ballot) (m : Message) (P : Ballot → Type 0)
-      → ((replying m && lacks (b .heard) (m .replica)) ≡ true → P (noteReply b (m .replica) (m .value)))
-      → ((replying m && lacks (b .heard) (m .replica)) ≡ false → (halting m && isReplica (m .replica)) ≡ true → P (noteHalt b (m .replica)))
-      → ((replying m && lacks (b .heard) (m .replica)) ≡ false → (halting m && isReplica (m .replica)) ≡ false → P b)
+      → (isFirstReply k n q b m ≡ true → P (noteReply b (m .replica) (m .value)))
+      → (isFirstReply k n q b m ≡ false → isFirstHalt k n q b m ≡ true → P (noteHalt b (m .replica)))
+      → (isFirstReply k n q b m ≡ false → isFirstHalt k n q b m ≡ false → P b)
       → P (hear k n q b m)
   unfolding hear
-  heard-cases b m P f g h = case (replying m && lacks (b .heard) (m .replica))
+  heard-cases b m P f g h = case (isFirstReply k n q b m)
       (λ e. rw e (f e))
-      (λ e. case (halting m && isReplica (m .replica)) (λ d. rw (e, d) (g e d)) (λ d. rw (e, d) (h e d)))
+      (λ e. case (isFirstHalt k n q b m) (λ d. rw (e, d) (g e d)) (λ d. rw (e, d) (h e d)))
 
   heard-sized : (b : Ballot) → Sized b → (m : Message) → Sized (hear k n q b m)
   heard-sized b sized m =
@@ -72,16 +71,19 @@ module _ (k n : ℕ) (q : Query) where
   heard-short b m = heard-cases b m (λ c. c .short ≡ b .short) (λ e. refl) (λ e d. refl) (λ e d. refl)
 
   module _ (i : ℕ) (low : 1 ≤ i) (high : i ≤ lastReplica) (b : Ballot) (m : Message) where
-    -- a reply that is not noted is of another replica, or its first came
-    later-reply : (replying m && lacks (b .heard) (m .replica)) ≡ false → (v : ℕ) (other : Bool)
-        → noted b v i other ≡ noted b v i (cond (replying m && eqb (m .replica) i) (eqb (m .value) v) other)
-    later-reply e v other = case (has (b .heard) i) (λ h. rw h) (λ h. rw h (case (replying m && eqb (m .replica) i)
+    -- what is not noted is of another replica, or came before
+    not-noted : (set : ℕ) (counts : Bool) → (counts && lacks set (m .replica)) ≡ false → has set i ≡ false → (counts && eqb (m .replica) i) ≡ false
+    not-noted set counts e h = case (counts && eqb (m .replica) i)
         (λ d.
-        let a = both (replying m) (eqb (m .replica) i) d in
-        true-not-false (replying m && lacks (b .heard) (m .replica)) (rw (a .0, eqb-true (m .replica) i (a .1), in-within 1 lastReplica i low high, h)) e)
-        (λ d. rw d)))
+        let a = both counts (eqb (m .replica) i) d in
+        true-not-false (counts && lacks set (m .replica)) (rw (a .0, eqb-true (m .replica) i (a .1), in-within 1 lastReplica i low high, h)) e)
+        (λ d. d)
 
-    first-reply : Sized b → (replying m && lacks (b .heard) (m .replica)) ≡ true → (v : ℕ) (other : Bool)
+    later-reply : isFirstReply k n q b m ≡ false → (v : ℕ) (other : Bool)
+        → noted b v i other ≡ noted b v i (cond (replying m && eqb (m .replica) i) (eqb (m .value) v) other)
+    later-reply e v other = case (has (b .heard) i) (λ h. rw h) (λ h. rw (h, not-noted (b .heard) (replying m) e h))
+
+    first-reply : Sized b → isFirstReply k n q b m ≡ true → (v : ℕ) (other : Bool)
         → noted (noteReply b (m .replica) (m .value)) v i other ≡ noted b v i (cond (replying m && eqb (m .replica) i) (eqb (m .value) v) other)
     first-reply sized e v other =
         let a = both (replying m) (lacks (b .heard) (m .replica)) e in
@@ -103,13 +105,9 @@ module _ (k n : ℕ) (q : Query) where
     heard-halted = heard-cases b m (λ c. has (c .halted) i ≡ has (b .halted) i || (halting m && eqb (m .replica) i))
         (λ e. rw (reply-no-halt m (both (replying m) (lacks (b .heard) (m .replica)) e .0)) (sym (or-false (has (b .halted) i))))
         (λ e d.
-        let a = both (halting m) (isReplica (m .replica)) d in
-        rw (a .0) (has-with (b .halted) (m .replica) i (within-true 1 lastReplica (m .replica) (a .1) .0)))
-        (λ e d. case (halting m && eqb (m .replica) i)
-        (λ f.
-        let a = both (halting m) (eqb (m .replica) i) f in
-        true-not-false (halting m && isReplica (m .replica)) (rw (a .0, eqb-true (m .replica) i (a .1), in-within 1 lastReplica i low high)) d)
-        (λ f. rw f (sym (or-false (has (b .halted) i)))))
+        let a = both (halting m) (lacks (b .halted) (m .replica)) d in
+        rw (a .0) (has-with (b .halted) (m .replica) i (within-true 1 lastReplica (m .replica) (lacks-parts (b .halted) (m .replica) (a .1) .0) .0)))
+        (λ e d. case (has (b .halted) i) (λ h. rw h) (λ h. rw (h, not-noted (b .halted) (halting m) d h)))
 
   -- ── message after message ──
 

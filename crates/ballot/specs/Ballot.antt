@@ -12,7 +12,7 @@ use Rattle.record.specs.declared.message.Message.{Message}
 use Rattle.rules.specs.Lists.{tally}
 use Rattle.rules.specs.Vote.{countsFor, countsAsHalt}
 use Rattle.rules.specs.declared.Query.{Query}
-use Rattle.ballot.specs.Sets.{lastReplica, isReplica, has, lacks, with}
+use Rattle.ballot.specs.Sets.{lastReplica, has, lacks, with}
 use Rattle.ballot.specs.declared.ballot.Ballot.{Ballot}
 
 -- ── by their fields ──
@@ -46,11 +46,18 @@ noteReply b replica value = record { values = set (b .values) replica value; hea
 abbrev pub noteHalt : Ballot → ℕ → Ballot
 noteHalt b replica = record { values = b .values; heard = b .heard; halted = with (b .halted) replica; short = b .short }
 
--- a message: the first reply of a replica that counts is noted, and each halt that counts. A number that no replica has is not
+-- a reply that counts, the first of its replica. A number that no replica has is none's
+abbrev pub isFirstReply : ℕ → ℕ → Query → Ballot → Message → Bool
+isFirstReply k n q b m = countsFor k n q m && lacks (b .heard) (m .replica)
+
+-- a halt that counts, the first of its replica
+abbrev pub isFirstHalt : ℕ → ℕ → Query → Ballot → Message → Bool
+isFirstHalt k n q b m = countsAsHalt k n (q .group) (q .process) m && lacks (b .halted) (m .replica)
+
+-- a message: these are noted, and all else changes nothing
 unfoldable pub hear : ℕ → ℕ → Query → Ballot → Message → Ballot
 hear k n q b m =
-    cond (countsFor k n q m && lacks (b .heard) (m .replica)) (noteReply b (m .replica) (m .value))
-    (cond (countsAsHalt k n (q .group) (q .process) m && isReplica (m .replica)) (noteHalt b (m .replica)) b)
+    cond (isFirstReply k n q b m) (noteReply b (m .replica) (m .value)) (cond (isFirstHalt k n q b m) (noteHalt b (m .replica)) b)
 
 -- the messages of a list, in their order
 unfoldable pub hearAll : ℕ → ℕ → Query → Ballot → List Message → Ballot

@@ -1,11 +1,10 @@
 // A ballot: what was heard so far of each replica.
+ghost use Prim.Native.Nat.{_≤_};
 ghost use mathlib.Core.Path.{_≡_};
-ghost use mathlib.Core.Bool.{true};
 ghost use Rattle.rules.specs.Vote.{answers, haltsFor};
-ghost use Rattle.ballot.specs.Sets.{isReplica, lacks};
+ghost use Rattle.ballot.specs.Sets.{lastReplica};
 ghost use Rattle.ballot.specs.Ballot.{messageOf, newBallot, noteReply, noteHalt, hear};
 use crate::sets::LAST_REPLICA;
-use crate::sets::is_replica;
 use crate::sets::lacks;
 use crate::sets::with;
 use limits::MAX_LIST;
@@ -21,12 +20,12 @@ const PLACES: usize = LAST_REPLICA + 1;
 
 pub struct Ballot {
     // The value of each replica's first counting reply, at the index that is its number.
-    pub values: [u32; PLACES],
+    pub(crate) values: [u32; PLACES],
     // Sets of replicas (src/sets.rt): whose counting reply came, and whose counting halt.
-    pub heard: u8,
-    pub halted: u8,
+    pub(crate) heard: u8,
+    pub(crate) halted: u8,
     // Question 16: the list is no longer than it may be.
-    pub short: bool,
+    pub(crate) short: bool,
 }
 
 // The reply asked for: it matches all four.
@@ -62,9 +61,9 @@ impl Ballot {
         }
     }
 
-    // The first reply of a replica.
+    // The first reply of a replica, and its first halt.
     fn note_reply(self, replica: u8, value: u32) -> Ballot
-        requires { ⌜ lacks (self .heard) replica ≡ true ⌝ }
+        requires { ⌜ (1 ≤ replica) × (replica ≤ lastReplica) ⌝ }
         ensures { λ b. ⌜ b ≡ noteReply self replica value ⌝ }
     {
         let i = replica as usize;
@@ -75,7 +74,7 @@ impl Ballot {
     }
 
     fn note_halt(self, replica: u8) -> Ballot
-        requires { ⌜ isReplica replica ≡ true ⌝ }
+        requires { ⌜ (1 ≤ replica) × (replica ≤ lastReplica) ⌝ }
         ensures { λ b. ⌜ b ≡ noteHalt self replica ⌝ }
     {
         let mut next = self;
@@ -113,7 +112,7 @@ impl Ballot {
         if passes & answers(q, m) & lacks(self.heard, replica) {
             return self.note_reply(replica, value);
         }
-        if passes & halts_for(q.group, q.process, m) & is_replica(replica) {
+        if passes & halts_for(q.group, q.process, m) & lacks(self.halted, replica) {
             return self.note_halt(replica);
         }
         self

@@ -9,7 +9,7 @@ use question::is_within;
 pub(crate) const LAST_REPLICA: usize = MAX_REPLICAS;
 
 // Whether any unit has a replica of this number.
-pub(crate) fn is_replica(number: u8) -> bool
+fn is_replica(number: u8) -> bool
     ensures { λ r. ⌜ r ≡ isReplica number ⌝ }
 {
     is_within(1, MAX_REPLICAS as u64, number as u64)

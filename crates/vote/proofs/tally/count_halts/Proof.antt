@@ -14,20 +14,19 @@ use prog.Wp.{Heap, WpFn, Tables}
 use ghost.Atoms.{Atoms}
 use contract.Monad.{Fun, factI}
 use contract.Running.{givenOf, tables, tablesOf}
-use types.Kit.{Given, ‵, _⊛_, _$_, _∵_, !, qed, by, move, keep, drop, split, join, fsplit}
+use types.Kit.{Given, ‵, _⊛_, _$_, _∵_, !, qed, by, move, keep, drop, join, fsplit}
 use types.Run.{look, init, stop, from, and-then, no-more, land, returns, enter, alloc1, alloc0, params1, pass1, pass0, free0}
 use sound.WpLaws.{fmOf}
 use denote.RattleType.{owns}
-use denote.Laws.{Is}
 use denote.Plain.{uint-vals, uint-tells}
 use denote.Builtin.{u8}
-use denote.Slice.{sliceVal, ShrSlice, Room, slice-vals, shr-slice-tells}
+use denote.Slice.{ShrSlice, Room, slice-vals, shr-slice-tells}
 use denote.Steps.{nothing}
 use denote.Enum.Laws as EL
 use denote.Struct.Laws as LL
 use denote.Triple.Statement.{Triple}
 use denote.Triple.Entry.{Args, Vals, onEntry}
-use denote.Triple.Table.{entered, cited}
+use denote.Triple.Table.{cited}
 use Rattle.record.proofs.message.Message as T
 use Rattle.rules.specs.declared.Query.{Query}
 use Rattle.rules.proofs.Query as Q
@@ -43,16 +42,12 @@ use Rattle.ballot.proofs.ballot.Ballot.answer_halts as answer
 use Rattle.ballot.proofs.ballot.Ballot.answer_halts.Symbol as answer-def
 use Rattle.ballot.proofs.ballot.Ballot.answer_halts.Symbol.{name as #answer-halts}
 use Rattle.ballot.proofs.ballot.Ballot.answer_halts.Met as answer-thm
-use Rattle.vote.proofs.Tallied.{Own, tally-asked}
+use Rattle.vote.proofs.Tallied.{TallyMet, tally-met, calls-tally, listVal}
 use Rattle.vote.proofs.Walks.{Quiets, ContractOf, walked, ends, struct-plain, plain-asked, at, gone, calls-told}
 use Rattle.vote.proofs.tally.halt_query as query
 use Rattle.vote.proofs.tally.halt_query.Symbol as query-def
 use Rattle.vote.proofs.tally.halt_query.Symbol.{name as #halt-query}
 use Rattle.vote.proofs.tally.halt_query.Met as query-thm
-use Rattle.vote.proofs.tally.tally as tally
-use Rattle.vote.proofs.tally.tally.Symbol as tally-def
-use Rattle.vote.proofs.tally.tally.Symbol.{name as #tally}
-use Rattle.vote.proofs.tally.tally.Met as tally-thm
 use Rattle.vote.proofs.tally.count_halts.Key.{name as #count-halts}
 use Rattle.vote.proofs.tally.count_halts as f
 use Rattle.vote.proofs.tally.count_halts.Statement as stated
@@ -62,11 +57,11 @@ abbrev quiet : Quiets (f.ended .signature .params) (f.ended .kept)
 quiet = (λ κs x. (tt, refl), (λ κs x. (tt, refl), (λ κs x. (tt, refl), (λ κs x. (tt, refl), (λ κs x. (tt, refl), tt)))))
 
 module _ {M : Type 1} (𝓤 : URA M) (H : Heap 𝓤) (A : Atoms 𝓤) (W : Given 𝓤 H A) (mem : Memory → SProp 𝓤) (run : Routine → Fun 𝓤) (𝓣 : Tables 𝓤 H)
-    (known-query : Triple 𝓤 (𝓣 .C #halt-query) (ContractOf 𝓤 H A query.ended (query.clauses 𝓤 H A mem run))) (known-tally : Triple 𝓤 (𝓣 .C #tally) (ContractOf 𝓤 H A tally.ended (tally.clauses 𝓤 H A mem run)))
+    (known-query : Triple 𝓤 (𝓣 .C #halt-query) (ContractOf 𝓤 H A query.ended (query.clauses 𝓤 H A mem run))) (tallies : TallyMet 𝓤 H A mem run (𝓣 .C))
     (known-answer : Triple 𝓤 (𝓣 .C #answer-halts) (ContractOf 𝓤 H A answer.ended (answer.clauses 𝓤 H A mem run)))
     (κ : Lft) (s : Share) (k n group process : ℕ) (list : ShrSlice (named 0) κ T.the-row .Denot) (gk : k < 2 ^ 8) (gn : n < 2 ^ 8) (gg : group < 2 ^ 8) (gp : process < 2 ^ 8) (room : Room T.the-row (length (list .now))) where
   abbrev ulist : Val
-  ulist = sliceVal (list .ptr) (length (list .now))
+  ulist = listVal κ list
 
   abbrev arg : Args f.signature (κ, tt)
   arg = (k, (n, (group, (process, (list, tt)))))
@@ -87,8 +82,7 @@ module _ {M : Type 1} (𝓤 : URA M) (H : Heap 𝓤) (A : Atoms 𝓤) (W : Given
       land ! (from ! (stop !)) (init ! 0 refl (LL.lawful Q.the-type Q′.the-laws 𝓤 H A W .typed q _ iq .0)) $
       -- [the token and the slice; true; _7; …; _0; …]
       move ! (17 ∷ []) $ fsplit ! $ drop ! $ fsplit ! $ drop ! $ fsplit ! $ drop ! $ fsplit ! $ drop ! $ fsplit ! $ move ! (18 ∷ 0 ∷ []) $ join ! $
-      calls-told ! (fmOf 𝓤 H (W .laws) 𝓣) tally.ended (tally.clauses 𝓤 H A mem run) known-tally (((κ, tt), (s, tt), tt, (k, (n, (q, (list, tt)))), (vint w8 k ∷ [], (vint w8 n ∷ [], (w ∷ [], (ulist ∷ [], tt))))), tt) (tally-asked 𝓤 H A W κ s list k n q w gk gn iq)
-      (and-then ! (at ! 14 refl) (and-then ! (at ! 12 refl) (and-then ! (at ! 2 refl) (and-then ! (at ! 6 refl) (no-more !))))) (λ b. b ≡ ballotOf k n q (list .now)) (λ b x. id⊢ 𝓤 _) (λ u b e₂ ib.
+      calls-tally 𝓤 H A W mem run κ s list k n q w ! (fmOf 𝓤 H (W .laws) 𝓣) tallies gk gn iq (and-then ! (at ! 14 refl) (and-then ! (at ! 12 refl) (and-then ! (at ! 2 refl) (and-then ! (at ! 6 refl) (no-more !))))) (λ u b e₂ ib.
       land ! (from ! (stop !)) (init ! 5 refl (LL.lawful B.the-type B′.the-laws 𝓤 H A W .typed b _ ib .0)) $ nothing ! $
       -- [true; the token; the ballot; true; _7; …; _0; …]
       calls-told ! (fmOf 𝓤 H (W .laws) 𝓣) answer.ended (answer.clauses 𝓤 H A mem run) known-answer ((tt, tt, tt, (b, (k, (n, tt))), (u ∷ [], (vint w8 k ∷ [], (vint w8 n ∷ [], tt)))), tt)
@@ -104,13 +98,12 @@ pub count-halts-spec : {M : Type 1} → stated.statement M
 unfolding code.routine tablesOf
 count-halts-spec 𝓤 H 𝓜 𝓖 𝓡 =
     let A = 𝓖 .A in
-    let 𝓣 = tables 𝓤 H 𝓜 𝓡 code.env in
-    let c = f.clauses 𝓤 H A (𝓜 .mem) (𝓡 .run) in
-    entered 𝓤 H (ContractOf 𝓤 H A f.ended c) (𝓣 .C) (𝓣 .Λ) #count-halts code.function (code.unfolded 𝓤 H 𝓜 𝓡)
-    (walked 𝓤 H A f.ended c (WpFn 𝓤 H (𝓣 .C) (𝓣 .Λ) code.function) (λ κs. (uint-vals w8, (uint-vals w8, (uint-vals w8, (uint-vals w8, (slice-vals, tt))))))
+    let 𝓣 = tablesOf 𝓤 H 𝓜 (tables 𝓤 H 𝓜 𝓡 code.env) in
+    walked 𝓤 H A f.ended (f.clauses 𝓤 H A (𝓜 .mem) (𝓡 .run)) (𝓣 .C) (𝓣 .Λ) #count-halts code.function (code.unfolded 𝓤 H 𝓜 𝓡)
+    (λ κs. (uint-vals w8, (uint-vals w8, (uint-vals w8, (uint-vals w8, (slice-vals, tt))))))
     (λ κs. (uint-tells w8, (uint-tells w8, (uint-tells w8, (uint-tells w8, (shr-slice-tells (named 0) (κs .0) T.the-row, tt))))))
-    (λ κs qs bounds a g are. walk 𝓤 H A (givenOf 𝓤 H 𝓜 𝓖) (𝓜 .mem) (𝓡 .run) (tablesOf 𝓤 H 𝓜 𝓣)
+    (λ κs qs bounds a g are. walk 𝓤 H A (givenOf 𝓤 H 𝓜 𝓖) (𝓜 .mem) (𝓡 .run) 𝓣
     (cited 𝓤 H (ContractOf 𝓤 H A query.ended (query.clauses 𝓤 H A (𝓜 .mem) (𝓡 .run))) 𝓜 𝓡 code.env #halt-query query-def.routine code.calls-vote·tally·halt-query (query-thm.met 𝓤 H 𝓜 𝓖 𝓡))
-    (cited 𝓤 H (ContractOf 𝓤 H A tally.ended (tally.clauses 𝓤 H A (𝓜 .mem) (𝓡 .run))) 𝓜 𝓡 code.env #tally tally-def.routine code.calls-vote·tally·tally (tally-thm.met 𝓤 H 𝓜 𝓖 𝓡))
+    (tally-met 𝓤 H 𝓜 𝓖 𝓡 code.env code.calls-vote·tally·tally)
     (cited 𝓤 H (ContractOf 𝓤 H A answer.ended (answer.clauses 𝓤 H A (𝓜 .mem) (𝓡 .run))) 𝓜 𝓡 code.env #answer-halts answer-def.routine code.calls-ballot·ballot·Ballot·answer-halts (answer-thm.met 𝓤 H 𝓜 𝓖 𝓡))
-    (κs .0) (qs .0) (a .0) (a .1 .0) (a .1 .1 .0) (a .1 .1 .1 .0) (a .1 .1 .1 .1 .0) (are .0 .1) (are .1 .0 .1) (are .1 .1 .0 .1) (are .1 .1 .1 .0 .1) (are .1 .1 .1 .1 .0 .0 .1)))
+    (κs .0) (qs .0) (a .0) (a .1 .0) (a .1 .1 .0) (a .1 .1 .1 .0) (a .1 .1 .1 .1 .0) (are .0 .1) (are .1 .0 .1) (are .1 .1 .0 .1) (are .1 .1 .1 .0 .1) (are .1 .1 .1 .1 .0 .0 .1))

@@ -42,7 +42,7 @@ use denote.Struct.Declared.{fields}
 use denote.Struct.Laws as LL
 use denote.Triple.Statement.{Contract, Triple}
 use denote.Triple.Entry.{Args, Vals, onEntry}
-use denote.Triple.Table.{entered, cited}
+use denote.Triple.Table.{cited}
 use Rattle.record.specs.Record.{blankMessage}
 use Rattle.record.specs.declared.message.Message.{Message}
 use Rattle.record.proofs.clock.Timestamp as S
@@ -246,12 +246,11 @@ pub tally-spec : {M : Type 1} → stated.statement M
 unfolding code.routine tablesOf
 tally-spec 𝓤 H 𝓜 𝓖 𝓡 =
     let A = 𝓖 .A in
-    let 𝓣 = tables 𝓤 H 𝓜 𝓡 code.env in
-    let c = f.clauses 𝓤 H A (𝓜 .mem) (𝓡 .run) in
-    entered 𝓤 H (ContractOf 𝓤 H A f.ended c) (𝓣 .C) (𝓣 .Λ) #tally code.function (code.unfolded 𝓤 H 𝓜 𝓡)
-    (walked 𝓤 H A f.ended c (WpFn 𝓤 H (𝓣 .C) (𝓣 .Λ) code.function) (λ κs. (uint-vals w8, (uint-vals w8, (LL.vals Q.the-type Q′.the-laws, (slice-vals, tt)))))
+    let 𝓣 = tablesOf 𝓤 H 𝓜 (tables 𝓤 H 𝓜 𝓡 code.env) in
+    walked 𝓤 H A f.ended (f.clauses 𝓤 H A (𝓜 .mem) (𝓡 .run)) (𝓣 .C) (𝓣 .Λ) #tally code.function (code.unfolded 𝓤 H 𝓜 𝓡)
+    (λ κs. (uint-vals w8, (uint-vals w8, (LL.vals Q.the-type Q′.the-laws, (slice-vals, tt)))))
     (λ κs. (uint-tells w8, (uint-tells w8, (LL.tells Q.the-type Q′.the-laws, (shr-slice-tells (named 0) (κs .0) T.the-row, tt)))))
-    (λ κs qs bounds a g are. walk 𝓤 H A (givenOf 𝓤 H 𝓜 𝓖) (𝓜 .mem) (𝓡 .run) (tablesOf 𝓤 H 𝓜 𝓣)
+    (λ κs qs bounds a g are. walk 𝓤 H A (givenOf 𝓤 H 𝓜 𝓖) (𝓜 .mem) (𝓡 .run) 𝓣
     (cited 𝓤 H (ContractOf 𝓤 H A new.ended (new.clauses 𝓤 H A (𝓜 .mem) (𝓡 .run))) 𝓜 𝓡 code.env #new new-def.routine code.calls-ballot·ballot·Ballot·new (new-thm.met 𝓤 H 𝓜 𝓖 𝓡))
     (cited 𝓤 H (ContractOf 𝓤 H A hear.ended (hear.clauses 𝓤 H A (𝓜 .mem) (𝓡 .run))) 𝓜 𝓡 code.env #hear hear-def.routine code.calls-ballot·ballot·Ballot·hear (hear-thm.met 𝓤 H 𝓜 𝓖 𝓡))
-    (κs .0) (qs .0) (a .1 .1 .1 .0 .ptr .0) (a .1 .1 .1 .0 .ptr .1) (a .1 .1 .1 .0 .name) (a .0) (a .1 .0) (a .1 .1 .0) (a .1 .1 .1 .0 .now) (are .0 .1) (are .1 .0 .1) (are .1 .1 .0) (are .1 .1 .1 .0 .0 .1)))
+    (κs .0) (qs .0) (a .1 .1 .1 .0 .ptr .0) (a .1 .1 .1 .0 .ptr .1) (a .1 .1 .1 .0 .name) (a .0) (a .1 .0) (a .1 .1 .0) (a .1 .1 .1 .0 .now) (are .0 .1) (are .1 .0 .1) (are .1 .1 .0) (are .1 .1 .1 .0 .0 .1))

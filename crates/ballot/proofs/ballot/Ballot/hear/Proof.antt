@@ -1,15 +1,16 @@
-use Prim.Native.Nat.{ℕ}
+use Prim.Native.Nat.{ℕ, _≤_}
 use mathlib.Core.Path.{_≡_, sym, _∙_}
 use mathlib.Core.Bool.{Bool, true, false, _&&_}
 use borrow.Author.Needs.{needs}
-use Rattle.question.proofs.Tests.{both}
+use Rattle.question.proofs.Tests.{both, within-true}
 use Rattle.record.specs.declared.message.Message.{Message}
 use Rattle.record.specs.Record.{passes}
 use Rattle.rules.specs.Vote.{answers, haltsFor, countsFor, countsAsHalt}
 use Rattle.rules.specs.declared.Query.{Query}
-use Rattle.ballot.specs.Sets.{isReplica, lacks}
+use Rattle.ballot.specs.Sets.{lastReplica, lacks}
 use Rattle.ballot.specs.Ballot.{noteReply, noteHalt, hear}
 use Rattle.ballot.specs.declared.ballot.Ballot.{Ballot}
+use Rattle.ballot.proofs.Heard.{lacks-parts}
 use Rattle.ballot.proofs.ballot.Ballot.hear.Statement.{statement}
 use Rattle.ballot.proofs.ballot.Ballot.hear.Tie as tie
 
@@ -19,14 +20,18 @@ module _ (k n : ℕ) (q : Query) (b : Ballot) (m : Message) {p a l : Bool} (pass
   unfolding hear countsFor
   is-reply e = rw (rw (passing, answering, lacking) at e)
 
-  module _ {h r : Bool} (halting : h ≡ haltsFor (q .group) (q .process) m) (numbered : r ≡ isReplica (m .replica)) (none : (p && a && l) ≡ false) where
+  module _ {h r : Bool} (halting : h ≡ haltsFor (q .group) (q .process) m) (free : r ≡ lacks (b .halted) (m .replica)) (none : (p && a && l) ≡ false) where
     is-halt : (p && h && r) ≡ true → noteHalt b (m .replica) ≡ hear k n q b m
     unfolding hear countsFor countsAsHalt
-    is-halt e = rw (rw (passing, answering, lacking) at none, rw (passing, halting, numbered) at e)
+    is-halt e = rw (rw (passing, answering, lacking) at none, rw (passing, halting, free) at e)
 
     is-neither : (p && h && r) ≡ false → b ≡ hear k n q b m
     unfolding hear countsFor countsAsHalt
-    is-neither e = rw (rw (passing, answering, lacking) at none, rw (passing, halting, numbered) at e)
+    is-neither e = rw (rw (passing, answering, lacking) at none, rw (passing, halting, free) at e)
+
+-- a number that a set could have is a replica's
+ranged : (set replica : ℕ) (other free : Bool) → free ≡ lacks set replica → (other && free) ≡ true → (1 ≤ replica) × (replica ≤ lastReplica)
+ranged set replica other free f e = within-true 1 lastReplica replica (lacks-parts set replica (sym f ∙ both other free e .1) .0)
 
 passes-requires : tie.Need-passes-requires
 passes-requires c κs = search needs
@@ -40,7 +45,7 @@ lacks-requires c κs = search needs
 note-reply-requires : tie.Need-note-reply-requires
 note-reply-requires c κs =
     let l = c .before in
-    sym (l .lacks .ensures) ∙ both (l .before .before .passes .result && l .before .answers .result) (l .lacks .result) (c .if1 .taken) .1
+    ranged (l .before .before .before .args .self .heard) _ (l .before .before .passes .result && l .before .answers .result) _ (l .lacks .ensures) (c .if1 .taken)
 
 returns : tie.Need-returns
 returns c =
@@ -51,15 +56,14 @@ returns c =
 halts-for-requires : tie.Need-halts-for-requires
 halts-for-requires c κs = search needs
 
-is-replica-requires : tie.Need-is-replica-requires
-is-replica-requires c κs = search needs
+lacks-requires-2 : tie.Need-lacks-requires-2
+lacks-requires-2 c κs = search needs
 
 note-halt-requires : tie.Need-note-halt-requires
 note-halt-requires c κs =
-    let r = c .before in
-    let h = r .before in
-    sym (r .is-replica .ensures)
-    ∙ both (h .before .before .before .before .passes .result && h .halts-for .result) (r .is-replica .result) (c .if2 .taken) .1
+    let h = c .before .before in
+    let p = h .before .before .before .before in
+    ranged (p .before .args .self .halted) _ (p .passes .result && h .halts-for .result) _ (c .before .lacks2 .ensures) (c .if2 .taken)
 
 returns-2 : tie.Need-returns-2
 returns-2 c =
@@ -68,7 +72,7 @@ returns-2 c =
     let l = h .before .before in
     c .note-halt .ensures
     ∙ is-halt _ _ (l .before .before .before .args .q) _ _ (l .before .before .passes .ensures) (l .before .answers .ensures) (l .lacks .ensures)
-    (h .halts-for .ensures) (r .is-replica .ensures) (h .before .if1 .left) (c .before .if2 .taken)
+    (h .halts-for .ensures) (r .lacks2 .ensures) (h .before .if1 .left) (c .before .if2 .taken)
 
 returns-3 : tie.Need-returns-3
 returns-3 c =
@@ -76,7 +80,7 @@ returns-3 c =
     let h = r .before in
     let l = h .before .before in
     is-neither _ _ (l .before .before .before .args .q) _ _ (l .before .before .passes .ensures) (l .before .answers .ensures) (l .lacks .ensures)
-    (h .halts-for .ensures) (r .is-replica .ensures) (h .before .if1 .left) (c .if2 .left)
+    (h .halts-for .ensures) (r .lacks2 .ensures) (h .before .if1 .left) (c .if2 .left)
 
 pub hear-spec : {M : Type 1} → statement M
 hear-spec =
@@ -88,7 +92,7 @@ hear-spec =
     note-reply-requires
     returns
     halts-for-requires
-    is-replica-requires
+    lacks-requires-2
     note-halt-requires
     returns-2
     returns-3)

@@ -1,10 +1,9 @@
-use Rattle.question.proofs.Tests.{within-true}
-use Rattle.ballot.specs.Sets.{lastReplica}
+use borrow.Author.Needs.{needs}
 use Rattle.ballot.proofs.ballot.Ballot.note_halt.Statement.{statement}
 use Rattle.ballot.proofs.ballot.Ballot.note_halt.Tie as tie
 
 with-requires : tie.Need-with-requires
-with-requires c κs = within-true 1 lastReplica (c .args .replica) (c .pre)
+with-requires c κs = search needs
 
 returns : tie.Need-returns
 returns c = rw (c .with .ensures)
