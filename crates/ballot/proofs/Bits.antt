@@ -101,8 +101,8 @@ ones-has set (suc n) = case (eqb (set / 2 ^ n % 2) 1)
     (λ e. rw e (omega (arith, ones-cut set n, ones-has set n, rw e at (ones-bit (set / 2 ^ n)))))
 
 -- what the code counts: bits that are no replica's are left out
-pub ones-masked : (set : ℕ) → ones (bitAnd set 127) ≡ tally (has set) lastReplica
-ones-masked set = ap ones (and-mask set 7) ∙ ones-has set 7
+pub ones-masked : (set : ℕ) → ones (bitAnd set (2 ^ lastReplica - 1)) ≡ tally (has set) lastReplica
+ones-masked set = ap ones (and-mask set lastReplica) ∙ ones-has set lastReplica
 
-pub ones-small : (set : ℕ) → ones (bitAnd set 127) < 2 ^ 64
-ones-small set = omega (arith, ones-masked set, tally-bound (has set) 7)
+pub ones-small : (set : ℕ) → ones (bitAnd set (2 ^ lastReplica - 1)) < 2 ^ 64
+ones-small set = omega (arith, ones-masked set, tally-bound (has set) lastReplica)
