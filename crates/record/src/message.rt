@@ -1,8 +1,7 @@
 // Messages: a reply or a halt, from a replica to a process.
 ghost use mathlib.Core.Path.{_≡_};
-ghost use Rattle.question.specs.Question.{given, ask, after, verdict, outcome};
-ghost use Rattle.record.specs.declared.kind.Family.the-variants.{Messages};
-ghost use Rattle.record.specs.Record.{fieldQuestions, messageIn, messageFields, messageAnswer, readMessage, writeMessage, passes, blankMessage};
+ghost use Rattle.question.specs.Question.{after, verdict, outcome};
+ghost use Rattle.record.specs.Record.{messageIn, messageFields, messageAnswer, readMessage, writeMessage, passes, blankMessage};
 use crate::check::check_fields;
 use crate::check::check_length;
 use crate::clock::Timestamp;
@@ -89,21 +88,15 @@ impl Message {
     }
 }
 
-// The fields as a message, where their questions are answered yes.
-fn accept_message(k: u8, n: u8, f: Fields) -> MessageRead
-    ensures { λ r. ⌜ messageAnswer r ≡ ask (fieldQuestions Messages k n f) (given (messageIn f)) ⌝ }
-{
-    match check_fields(Family::Messages, k, n, f) {
-        Outcome::Done => MessageRead::Accepted(Message::of_fields(f)),
-        Outcome::Refused(number) => MessageRead::Refused(number),
-    }
-}
-
 pub fn read_message(k: u8, n: u8, bytes: &[u8]) -> MessageRead
     ensures { λ r. ⌜ messageAnswer r ≡ readMessage k n (now (bytes .entry)) ⌝ }
 {
-    match check_length(k, n, bytes.len()) {
-        Outcome::Done => accept_message(k, n, Fields::of_bytes(bytes)),
+    if let Outcome::Refused(number) = check_length(k, n, bytes.len()) {
+        return MessageRead::Refused(number);
+    }
+    let f = Fields::of_bytes(bytes);
+    match check_fields(Family::Messages, k, n, f) {
+        Outcome::Done => MessageRead::Accepted(Message::of_fields(f)),
         Outcome::Refused(number) => MessageRead::Refused(number),
     }
 }

@@ -1,10 +1,9 @@
 // Requests: a read or a write, from a process to the replicas.
 ghost use mathlib.Core.Path.{_≡_};
 ghost use mathlib.Core.Bool.{_&&_};
-ghost use Rattle.question.specs.Question.{given, ask, after, verdict, outcome};
+ghost use Rattle.question.specs.Question.{after, verdict, outcome};
 ghost use Rattle.record.specs.Kind.{isRead, isWrite, sameWrite};
-ghost use Rattle.record.specs.declared.kind.Family.the-variants.{Requests};
-ghost use Rattle.record.specs.Record.{fieldQuestions, requestIn, requestFields, requestAnswer, readRequest, writeRequest, blankRequest};
+ghost use Rattle.record.specs.Record.{requestIn, requestFields, requestAnswer, readRequest, writeRequest, blankRequest};
 use crate::check::check_fields;
 use crate::check::check_length;
 use crate::clock::Timestamp;
@@ -92,21 +91,15 @@ impl Request {
     }
 }
 
-// The fields as a request, where their questions are answered yes.
-fn accept_request(k: u8, n: u8, f: Fields) -> RequestRead
-    ensures { λ r. ⌜ requestAnswer r ≡ ask (fieldQuestions Requests k n f) (given (requestIn f)) ⌝ }
-{
-    match check_fields(Family::Requests, k, n, f) {
-        Outcome::Done => RequestRead::Accepted(Request::of_fields(f)),
-        Outcome::Refused(number) => RequestRead::Refused(number),
-    }
-}
-
 pub fn read_request(k: u8, n: u8, bytes: &[u8]) -> RequestRead
     ensures { λ r. ⌜ requestAnswer r ≡ readRequest k n (now (bytes .entry)) ⌝ }
 {
-    match check_length(k, n, bytes.len()) {
-        Outcome::Done => accept_request(k, n, Fields::of_bytes(bytes)),
+    if let Outcome::Refused(number) = check_length(k, n, bytes.len()) {
+        return RequestRead::Refused(number);
+    }
+    let f = Fields::of_bytes(bytes);
+    match check_fields(Family::Requests, k, n, f) {
+        Outcome::Done => RequestRead::Accepted(Request::of_fields(f)),
         Outcome::Refused(number) => RequestRead::Refused(number),
     }
 }
