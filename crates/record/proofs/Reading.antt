@@ -1,12 +1,14 @@
 -- Laws of reading and writing fields: a record is read or written where every question is answered yes. Assumes nothing.
 use Prim.Native.Nat.{ℕ, _≤_}
-use mathlib.Core.Path.{_≡_, sym, _∙_}
+use mathlib.Core.Path.{_≡_, sym, ap, _∙_}
 use mathlib.Core.List.{List, [], _∷_, _++_, append-assoc}
 use lib.Dec.{eqb, leb}
 use lib.ListN.{length, drop}
 use borrow.Author.Tests.{eqb-true, eq-eqb, leb-true, le-leb}
 use Rattle.limits.specs.Limits.{recordSize}
-use Rattle.question.specs.Question.{Question, _else_, Answer, given, Worked, worked, ask, mapAnswer, next, after, verdict, unitQuestions}
+use Rattle.question.specs.Question.{Question, _else_, Answer, given, refused, Worked, worked, ask, mapAnswer, next, after, verdict, outcome, unitQuestions}
+use Rattle.question.specs.declared.Outcome.{Outcome}
+use Rattle.question.specs.declared.Outcome.the-variants.{Done, Refused}
 use Rattle.question.proofs.Questions.{AllYes, all-yes-parts, all-yes-both, ask-chain, ask-yes, ask-all-yes, ask-through, ask-map, ask-verdict, next-asked, same-given}
 use Rattle.record.specs.Layout.{fieldsOf, bytesOf}
 use Rattle.record.specs.Record.{fieldQuestions, readQuestions, readFields, writeQuestions, writeFields}
@@ -25,19 +27,28 @@ roomQuestion destination = (leb recordSize (length destination) else 15) ∷ []
 module _ (family : Family) (k n : ℕ) where
   -- ── as the code goes: the first questions by themselves, then the rest ──
 
-  -- bytes that pass questions 1, 2 and 6 are 24
-  pub read-length : (bytes : List ℕ) {a : Worked} →
-      ask (unitQuestions k n ++ lengthQuestion bytes) (given worked) ≡ given a → length bytes ≡ recordSize
-  read-length bytes e =
-      let parts = all-yes-parts (unitQuestions k n) (lengthQuestion bytes) (ask-all-yes (unitQuestions k n ++ lengthQuestion bytes) (given worked) e) in
-      eqb-true (length bytes) recordSize (parts .1 .0)
+  module _ (bytes : List ℕ) (o : Outcome) (asked : outcome o ≡ ask (unitQuestions k n ++ lengthQuestion bytes) (given worked)) where
+    -- bytes that pass questions 1, 2 and 6 are 24
+    pub read-length : o ≡ Done → length bytes ≡ recordSize
+    read-length e =
+        let first = unitQuestions k n ++ lengthQuestion bytes in
+        let parts = all-yes-parts (unitQuestions k n) (lengthQuestion bytes) (ask-all-yes first (given worked) (sym asked ∙ ap outcome e)) in
+        eqb-true (length bytes) recordSize (parts .1 .0)
 
-  -- then come those of the fields, and something is made of them
-  pub read-next : {A : Type 0} (of : Fields → A) (bytes : List ℕ) (alone : Answer Worked) →
-      alone ≡ ask (unitQuestions k n ++ lengthQuestion bytes) (given worked) →
-      next alone (ask (fieldQuestions family k n (fieldsOf bytes)) (given (of (fieldsOf bytes)))) ≡ mapAnswer of (readFields family k n bytes)
-  unfolding readFields
-  read-next of bytes alone e = rw (e, ← ask-map (readQuestions family k n bytes) of (fieldsOf bytes)) (simp (ask-chain, append-assoc))
+    -- then come those of the fields, and something is made of them
+    module _ {A : Type 0} (of : Fields → A) where
+      read-next : next (outcome o) (ask (fieldQuestions family k n (fieldsOf bytes)) (given (of (fieldsOf bytes)))) ≡ mapAnswer of (readFields family k n bytes)
+      unfolding readFields
+      read-next = rw (asked, ← ask-map (readQuestions family k n bytes) of (fieldsOf bytes)) (simp (ask-chain, append-assoc))
+
+      pub read-refused : {number : ℕ} → o ≡ Refused number → refused number ≡ mapAnswer of (readFields family k n bytes)
+      read-refused e = rw e at read-next
+
+      pub read-decided : o ≡ Done → {f : Fields} → f ≡ fieldsOf bytes → {later : Answer Worked} →
+          later ≡ ask (fieldQuestions family k n f) (given worked) →
+          next later (given (of f)) ≡ mapAnswer of (readFields family k n bytes)
+      read-decided e {f} is {later} fields =
+          rw is (next-asked (fieldQuestions family k n (fieldsOf bytes)) (given (of (fieldsOf bytes))) later (rw is at fields) ∙ (rw e at read-next))
 
   module _ (f : Fields) (destination : List ℕ) (alone : Answer Worked)
       (asked : alone ≡ ask (writeQuestions family k n f (length destination)) (given worked)) where
