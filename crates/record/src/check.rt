@@ -64,10 +64,12 @@ fn allows_value(row: Row, f: Fields) -> bool
 pub(crate) fn check_fields(family: Family, k: u8, n: u8, f: Fields) -> Outcome
     ensures { λ o. ⌜ outcome o ≡ ask (fieldQuestions family k n f) (given worked) ⌝ }
 {
+    if !is_of(family, f.kind) {
+        return Outcome::Refused(7);
+    }
     let row = row_of(f.kind);
     let zero = spares_zero(family, row, f) & allows_value(row, f);
     Outcome::Done
-        .ask(is_of(family, f.kind), 7)
         .ask(is_within(1, n as u64, f.group as u64), 8)
         .ask(is_within(1, k as u64 + 1, f.process as u64), 9)
         .then(check_sender(family, k, f))
