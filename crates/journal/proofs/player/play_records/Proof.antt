@@ -3,6 +3,7 @@ use Prim.Native.Nat.{_-_, _≤_}
 use mathlib.Core.Path.{_≡_, _∙_}
 use lib.ListN.{length, length-set}
 use native.Mathlib.Omega.{arith}
+use Rattle.limits.specs.Limits.{outputSize}
 use borrow.Author.Needs.{needs}
 use Rattle.journal.proofs.player.play_records.Statement.{statement}
 use Rattle.journal.proofs.player.play_records.Tie as tie
@@ -13,7 +14,7 @@ Inv-loop file k groups replicas₀ block₀ sent₀ text₀ printed₀ span₀ p
     × (span .filled ≤ 64000)
     × (length block ≡ 64000)
     × (length replicas ≡ 7)
-    × (length sent ≡ 1608)
+    × (length sent ≡ outputSize)
 
 abbrev μ-loop : tie.MeasureT-loop
 μ-loop file k groups replicas₀ block₀ sent₀ text₀ printed₀ span₀ place₀ replicas block sent text printed span place = 18446744073709551615 - place
