@@ -25,7 +25,7 @@ variableCount = 256
 abbrev pub maxWrites : ℕ
 maxWrites = 2 ^ 64 - 1
 
--- the pending requests, document 01's shelf, that a replica has places for
+-- the pending requests that a replica has places for
 abbrev pub places : ℕ
 places = 64
 

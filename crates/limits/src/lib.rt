@@ -24,7 +24,7 @@ pub const VARIABLES: usize = 256;
 // The count of writes performed holds at this, the greatest 64-bit number.
 pub const MAX_WRITES: u64 = 18446744073709551615;
 
-// The pending requests (document 01's shelf) that a replica has places for.
+// The pending requests that a replica has places for.
 pub const PLACES: usize = 64;
 
 // The bytes of a record, and those of an entry of a journal.
