@@ -10,7 +10,7 @@ use Rattle.question.specs.Question.{Question, _else_, within, unitQuestions}
 use Rattle.question.proofs.Questions.{AllYes, all-yes-parts, all-yes-both}
 use Rattle.question.proofs.Tests.{both, other, within-true, UnitFacts}
 use Rattle.record.specs.Kind.{write, familyNumber, familyOf, isOf, rowOf}
-use Rattle.record.specs.Record.{hasSender, senderQuestions, allowsVariable, sparesZero, allowsValue, fieldQuestions}
+use Rattle.record.specs.Record.{hasSender, senderQuestions, allowsVariable, sparesZero, allowsValue, contentQuestions, fieldQuestions}
 use Rattle.record.specs.declared.fields.Fields.{Fields}
 use Rattle.record.specs.declared.kind.Family.{Family}
 use Rattle.record.specs.declared.kind.Family.the-variants.{Requests, Messages, Neither}
@@ -26,13 +26,10 @@ pub record FieldFacts (family : Family) (k n : ℕ) (f : Fields) : Type 0 where
   pub value : allowsValue f ≡ true
 
 module _ (family : Family) (k n : ℕ) (f : Fields) where
-  abbrev lastQuestions : List Question
-  lastQuestions = (allowsVariable f else 10) ∷ (sparesZero family f && allowsValue f else 11) ∷ []
-
   pub field-facts : AllYes (fieldQuestions family k n f) → FieldFacts family k n f
   unfolding fieldQuestions
   field-facts all =
-      let parts = all-yes-parts (senderQuestions family k f) lastQuestions (all .1 .1 .1) in
+      let parts = all-yes-parts (senderQuestions family k f) (contentQuestions family f) (all .1 .1 .1) in
       let zero = both (sparesZero family f) (allowsValue f) (parts .1 .1 .0) in
       record {
         kind = all .0;
@@ -47,8 +44,8 @@ module _ (family : Family) (k n : ℕ) (f : Fields) where
   pub facts-asked : FieldFacts family k n f → AllYes (fieldQuestions family k n f)
   unfolding fieldQuestions
   facts-asked h =
-      let last : AllYes lastQuestions = (h .variable, (rw (h .spares, h .value), tt)) in
-      (h .kind, (h .group, (h .process, all-yes-both (senderQuestions family k f) lastQuestions (h .sender) last)))
+      let last : AllYes (contentQuestions family f) = (h .variable, (rw (h .spares, h .value), tt)) in
+      (h .kind, (h .group, (h .process, all-yes-both (senderQuestions family k f) (contentQuestions family f) (h .sender) last)))
 
 -- ── what follows from them ──
 

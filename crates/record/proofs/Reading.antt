@@ -21,8 +21,8 @@ abbrev lengthQuestion : List ℕ → List Question
 lengthQuestion bytes = (eqb (length bytes) recordSize else 6) ∷ []
 
 -- question 15
-abbrev roomQuestion : List ℕ → List Question
-roomQuestion destination = (leb recordSize (length destination) else 15) ∷ []
+abbrev pub roomQuestion : ℕ → List Question
+roomQuestion room = (leb recordSize room else 15) ∷ []
 
 module _ (family : Family) (k n : ℕ) where
   -- ── as the code goes: the first questions by themselves, then the rest ──
@@ -57,8 +57,8 @@ module _ (family : Family) (k n : ℕ) where
     write-room e =
         let fields = fieldQuestions family k n f in
         let all = ask-all-yes (writeQuestions family k n f (length destination)) (given worked) (sym asked ∙ e) in
-        let later = all-yes-parts (unitQuestions k n) (fields ++ roomQuestion destination) all .1 in
-        leb-true recordSize (length destination) (all-yes-parts fields (roomQuestion destination) later .1 .0)
+        let later = all-yes-parts (unitQuestions k n) (fields ++ roomQuestion (length destination)) all .1 in
+        leb-true recordSize (length destination) (all-yes-parts fields (roomQuestion (length destination)) later .1 .0)
 
     pub write-verdict : alone ≡ verdict (writeFields family k n f destination)
     unfolding writeFields
@@ -120,8 +120,8 @@ module _ (family : Family) (k n : ℕ) where
   write-writable f destination e =
       let fields = fieldQuestions family k n f in
       let all = ask-all-yes (writeQuestions family k n f (length destination)) (given (bytesOf f ++ drop recordSize destination)) e in
-      let parts = all-yes-parts (unitQuestions k n) (fields ++ roomQuestion destination) all in
-      let later = all-yes-parts fields (roomQuestion destination) (parts .1) in
+      let parts = all-yes-parts (unitQuestions k n) (fields ++ roomQuestion (length destination)) all in
+      let later = all-yes-parts fields (roomQuestion (length destination)) (parts .1) in
       record {
         unit = parts .0;
         fields = field-facts family k n f (later .0);

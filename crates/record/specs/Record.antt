@@ -43,16 +43,23 @@ sparesZero family f =
 abbrev pub allowsValue : Fields → Bool
 allowsValue f = rowOf (f .kind) .value || eqb (f .value) 0
 
+-- whose it is: 8, 9, and 5 of a message's sender
+abbrev pub partyQuestions : Family → ℕ → ℕ → Fields → List Question
+partyQuestions family k n f =
+    (within 1 n (f .group) else 8)
+    ∷ (within 1 (k + 1) (f .process) else 9)
+    ∷ senderQuestions family k f
+
+-- what it carries: 10 and 11
+abbrev pub contentQuestions : Family → Fields → List Question
+contentQuestions family f =
+    (allowsVariable f else 10)
+    ∷ (sparesZero family f && allowsValue f else 11)
+    ∷ []
+
 -- 7 to 11, with 5 of a message's sender after 9
 unfoldable pub fieldQuestions : Family → ℕ → ℕ → Fields → List Question
-fieldQuestions family k n f =
-    (isOf family (f .kind) else 7)
-    ∷ (within 1 n (f .group) else 8)
-    ∷ (within 1 (k + 1) (f .process) else 9)
-    ∷ (senderQuestions family k f
-    ++ ((allowsVariable f else 10)
-    ∷ (sparesZero family f && allowsValue f else 11)
-    ∷ []))
+fieldQuestions family k n f = (isOf family (f .kind) else 7) ∷ (partyQuestions family k n f ++ contentQuestions family f)
 
 -- ── reading and writing, of fields ──
 

@@ -5,7 +5,7 @@ ghost use lib.Dec.{eqb};
 ghost use Rattle.limits.specs.Limits.{recordSize};
 ghost use Rattle.question.specs.Question.{_else_, given, worked, ask, outcome, unitQuestions};
 ghost use Rattle.record.specs.Kind.{rowOf};
-ghost use Rattle.record.specs.Record.{hasSender, senderQuestions, allowsVariable, sparesZero, allowsValue, fieldQuestions};
+ghost use Rattle.record.specs.Record.{hasSender, senderQuestions, allowsVariable, sparesZero, allowsValue, partyQuestions, contentQuestions, fieldQuestions, writeQuestions};
 use crate::fields::Fields;
 use crate::kind::Family;
 use crate::kind::Row;
@@ -60,7 +60,28 @@ fn allows_value(row: Row, f: Fields) -> bool
     row.value | (f.value == 0)
 }
 
-// Questions 7 to 11, with 5 of a message's sender after 9.
+// Questions 8 and 9, and 5 of a message's sender: whose the record is.
+fn check_parties(family: Family, k: u8, n: u8, f: Fields) -> Outcome
+    ensures { λ o. ⌜ outcome o ≡ ask (partyQuestions family k n f) (given worked) ⌝ }
+{
+    Outcome::Done
+        .ask(is_within(1, n as u64, f.group as u64), 8)
+        .ask(is_within(1, k as u64 + 1, f.process as u64), 9)
+        .then(check_sender(family, k, f))
+}
+
+// Questions 10 and 11: what the record carries.
+fn check_content(family: Family, row: Row, f: Fields) -> Outcome
+    requires { ⌜ row ≡ rowOf (f .kind) ⌝ }
+    ensures { λ o. ⌜ outcome o ≡ ask (contentQuestions family f) (given worked) ⌝ }
+{
+    Outcome::Done
+        .ask(allows_variable(row, f), 10)
+        .ask(spares_zero(family, row, f) & allows_value(row, f), 11)
+}
+
+// Questions 7 to 11, with 5 of a message's sender after 9. A refusal ends them: the compiler makes a
+// branch of it, which costs less than to ask the others too.
 pub(crate) fn check_fields(family: Family, k: u8, n: u8, f: Fields) -> Outcome
     ensures { λ o. ⌜ outcome o ≡ ask (fieldQuestions family k n f) (given worked) ⌝ }
 {
@@ -68,13 +89,10 @@ pub(crate) fn check_fields(family: Family, k: u8, n: u8, f: Fields) -> Outcome
         return Outcome::Refused(7);
     }
     let row = row_of(f.kind);
-    let zero = spares_zero(family, row, f) & allows_value(row, f);
-    Outcome::Done
-        .ask(is_within(1, n as u64, f.group as u64), 8)
-        .ask(is_within(1, k as u64 + 1, f.process as u64), 9)
-        .then(check_sender(family, k, f))
-        .ask(allows_variable(row, f), 10)
-        .ask(zero, 11)
+    match check_parties(family, k, n, f) {
+        Outcome::Done => check_content(family, row, f),
+        Outcome::Refused(number) => Outcome::Refused(number),
+    }
 }
 
 // Questions 1, 2 and 6: a record to be read has 24 bytes.
@@ -82,4 +100,20 @@ pub(crate) fn check_length(k: u8, n: u8, length: usize) -> Outcome
     ensures { λ o. ⌜ outcome o ≡ ask (unitQuestions k n ++ ((eqb length recordSize else 6) ∷ [])) (given worked) ⌝ }
 {
     check_unit(k, n).ask(length == RECORD, 6)
+}
+
+// Questions 1, 2, 7 to 11 and 15: of the fields that are to be written, and the room for them.
+pub(crate) fn check_write(family: Family, k: u8, n: u8, f: Fields, room: usize) -> Outcome
+    ensures { λ o. ⌜ outcome o ≡ ask (writeQuestions family k n f room) (given worked) ⌝ }
+{
+    if let Outcome::Refused(number) = check_unit(k, n) {
+        return Outcome::Refused(number);
+    }
+    if let Outcome::Refused(number) = check_fields(family, k, n, f) {
+        return Outcome::Refused(number);
+    }
+    if room < RECORD {
+        return Outcome::Refused(15);
+    }
+    Outcome::Done
 }

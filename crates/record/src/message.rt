@@ -4,12 +4,11 @@ ghost use Rattle.question.specs.Question.{after, verdict, outcome};
 ghost use Rattle.record.specs.Record.{messageIn, messageFields, messageAnswer, readMessage, writeMessage, passes, blankMessage};
 use crate::check::check_fields;
 use crate::check::check_length;
+use crate::check::check_write;
 use crate::clock::Timestamp;
 use crate::fields::Fields;
 use crate::kind::Family;
-use limits::RECORD;
 use question::Outcome;
-use question::check_unit;
 
 #[repr(C)]
 pub struct Message {
@@ -107,8 +106,7 @@ pub fn write_message(k: u8, n: u8, m: Message, destination: &mut [u8]) -> Outcom
     ensures content { λ o. ⌜ now (destination .exit) ≡ after (now (destination .entry)) (writeMessage k n m (now (destination .entry))) ⌝ }
 {
     let f = m.fields();
-    let asked = check_unit(k, n).then(check_fields(Family::Messages, k, n, f));
-    let o = asked.ask(RECORD <= destination.len(), 15);
+    let o = check_write(Family::Messages, k, n, f, destination.len());
     f.put_unless_refused(o, destination);
     o
 }

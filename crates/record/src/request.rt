@@ -6,14 +6,13 @@ ghost use Rattle.record.specs.Kind.{isRead, isWrite, sameWrite};
 ghost use Rattle.record.specs.Record.{requestIn, requestFields, requestAnswer, readRequest, writeRequest, blankRequest};
 use crate::check::check_fields;
 use crate::check::check_length;
+use crate::check::check_write;
 use crate::clock::Timestamp;
 use crate::fields::Fields;
 use crate::kind::Family;
 use crate::kind::READ;
 use crate::kind::WRITE;
-use limits::RECORD;
 use question::Outcome;
-use question::check_unit;
 
 #[repr(C)]
 pub struct Request {
@@ -110,8 +109,7 @@ pub fn write_request(k: u8, n: u8, r: Request, destination: &mut [u8]) -> Outcom
     ensures content { λ o. ⌜ now (destination .exit) ≡ after (now (destination .entry)) (writeRequest k n r (now (destination .entry))) ⌝ }
 {
     let f = r.fields();
-    let asked = check_unit(k, n).then(check_fields(Family::Requests, k, n, f));
-    let o = asked.ask(RECORD <= destination.len(), 15);
+    let o = check_write(Family::Requests, k, n, f, destination.len());
     f.put_unless_refused(o, destination);
     o
 }

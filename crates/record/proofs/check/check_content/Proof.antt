@@ -1,0 +1,26 @@
+use Rattle.question.proofs.Questions.{ask-chain}
+use borrow.Author.Needs.{needs}
+use Rattle.record.proofs.check.check_content.Statement.{statement}
+use Rattle.record.proofs.check.check_content.Tie as tie
+
+-- the nearest call first
+returns : tie.Need-returns
+returns c =
+    rw (
+      c .ask2 .ensures,
+      c .before .allows-value .ensures,
+      c .before .before .spares-zero .ensures,
+      c .before .before .before .ask .ensures,
+      c .before .before .before .before .allows-variable .ensures,
+    ) (simp ask-chain)
+
+pub check-content-spec : {M : Type 1} → statement M
+check-content-spec =
+    tie.close
+    (tie.spec
+    (λ c κs. search needs)
+    (λ c κs. search needs)
+    (λ c κs. search needs)
+    (λ c κs. search needs)
+    (λ c κs. search needs)
+    returns)
