@@ -8,7 +8,7 @@ use native.Mathlib.Omega.{arith}
 use lib.Dec.{eqb, leb}
 use borrow.Author.Tests.{eqb-true, eqb-false, leb-true}
 use Rattle.question.specs.Question.{Question, _else_, Answer, given, refused, Worked, worked, ask, allYes, next, unitQuestions}
-use Rattle.question.proofs.Questions.{AllYes, all-yes-parts, next-asked}
+use Rattle.question.proofs.Questions.{AllYes, all-yes, all-yes-parts, ask-after, next-asked}
 use Rattle.question.proofs.Tests.{case, true-not-false, both, unit-facts}
 use Rattle.record.specs.Record.{messageFields, fieldQuestions, passes}
 use Rattle.record.specs.declared.kind.Family.the-variants.{Messages}
@@ -26,17 +26,6 @@ use Rattle.ballot.proofs.Heard.{ballot-short, ballot-gave, ballot-halte
 use Rattle.ballot.proofs.Numbers.{tally-past, tally-same}
 
 -- ── the questions ──
-
--- what follows questions may use that all were answered yes
-ask-after : {A : Type 0} (questions : List Question) (one other : Answer A) → (AllYes questions → one ≡ other) → ask questions one ≡ ask questions other
-unfolding ask
-ask-after [] one other h = h tt
-ask-after ((true else number) ∷ questions) one other h = ask-after questions one other (λ all. h (refl, all))
-ask-after ((false else number) ∷ questions) one other h = refl
-
-all-yes : (questions : List Question) → allYes questions ≡ true → AllYes questions
-all-yes [] e = tt
-all-yes ((holds else number) ∷ questions) e = let a = both holds (allYes questions) e in (a .0, all-yes questions (a .1))
 
 module _ (k n : ℕ) (b : Ballot) (alone : Answer Worked) (asked : alone ≡ ask (ballotQuestions k n b) (given worked)) where
   -- the questions asked by themselves decide as they do before the election

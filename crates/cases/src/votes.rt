@@ -6,21 +6,22 @@ use ballot::VoteAnswer;
 use record::Message;
 use record::Timestamp;
 use rules::Query;
+use vote::LIST_PLACES;
 
 pub struct Heard {
-    pub list: [Message; 65],
+    pub list: [Message; LIST_PLACES],
     pub count: usize,
 }
 
 pub(crate) fn none() -> Heard {
     let blank = Message::blank();
-    let list = [blank; 65];
+    let list = [blank; LIST_PLACES];
     Heard { list, count: 0 }
 }
 
 pub(crate) fn hear(s: Scan, h: Heard) -> Heard {
     let i = h.count;
-    if 65 <= i {
+    if LIST_PLACES <= i {
         return h;
     }
     let mut next = h;

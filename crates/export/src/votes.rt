@@ -1,5 +1,4 @@
-// The vote and the halt count, on a list of at most 64 messages. It has 65 places, so that a list
-// that is too long can be shown.
+// The vote and the halt count, on a list of messages with its count.
 ghost use mathlib.Core.Path.{_≡_};
 ghost use lib.ListN.{take};
 ghost use Rattle.rules.specs.Vote.{vote, haltCount};
@@ -9,11 +8,12 @@ use ballot::HaltAnswer;
 use ballot::VoteAnswer;
 use record::Message;
 use rules::Query;
+use vote::LIST_PLACES;
 
 // The first `count` messages.
 #[repr(C)]
 pub struct List {
-    pub messages: [Message; 65],
+    pub messages: [Message; LIST_PLACES],
     pub count: usize,
 }
 

@@ -60,15 +60,18 @@ module _ (family : Family) (k n : ℕ) where
         let later = all-yes-parts (unitQuestions k n) (fields ++ roomQuestion (length destination)) all .1 in
         leb-true recordSize (length destination) (all-yes-parts fields (roomQuestion (length destination)) later .1 .0)
 
-    pub write-verdict : alone ≡ verdict (writeFields family k n f destination)
-    unfolding writeFields
-    write-verdict = asked ∙ sym (ask-verdict (writeQuestions family k n f (length destination)) (bytesOf f ++ drop recordSize destination))
-
-    pub write-content : {content : List ℕ} →
+    -- the questions decide both the answer and what is written, of fields by any name
+    pub write-decided : {named : Fields} → f ≡ named → {content : List ℕ} →
         content ≡ after destination (next alone (given (bytesOf f ++ drop recordSize destination))) →
-        content ≡ after destination (writeFields family k n f destination)
+        (alone ≡ verdict (writeFields family k n named destination)) × (content ≡ after destination (writeFields family k n named destination))
     unfolding writeFields
-    write-content c = rw (next-asked (writeQuestions family k n f (length destination)) (given (bytesOf f ++ drop recordSize destination)) alone asked) at c
+    write-decided is c =
+        let questions = writeQuestions family k n f (length destination) in
+        let written = bytesOf f ++ drop recordSize destination in
+        rw (sym is) (
+          asked ∙ sym (ask-verdict questions written),
+          rw (next-asked questions (given written) alone asked) at c,
+        )
 
   -- ── what reading asks is answered yes ──
 

@@ -2,6 +2,7 @@
 // The contracts cite crates/rules, specs/Vote.antt.
 mod tally;
 
+pub use tally::LIST_PLACES;
 pub use tally::count_halts;
 pub use tally::count_halts_in;
 pub use tally::vote;

@@ -17,7 +17,7 @@ use rules::Query;
 
 // The places of an array of messages: one more than a list may have, so that a list that is too
 // long can be shown.
-const PLACES: usize = MAX_LIST + 1;
+pub const LIST_PLACES: usize = MAX_LIST + 1;
 
 pub(crate) fn tally(k: u8, n: u8, q: Query, list: &[Message]) -> Ballot
     ensures { λ b. ⌜ b ≡ ballotOf k n q (now (list .entry)) ⌝ }
@@ -71,10 +71,14 @@ pub fn count_halts(k: u8, n: u8, group: u8, process: u8, list: &[Message]) -> Ha
 fn listed(count: usize) -> usize
     ensures { λ r. ⌜ r ≡ min count (suc maxList) ⌝ }
 {
-    if count <= PLACES { count } else { PLACES }
+    if count <= LIST_PLACES {
+        count
+    } else {
+        LIST_PLACES
+    }
 }
 
-fn tally_in(k: u8, n: u8, q: Query, list: [Message; PLACES], count: usize) -> Ballot
+fn tally_in(k: u8, n: u8, q: Query, list: [Message; LIST_PLACES], count: usize) -> Ballot
     ensures { λ b. ⌜ b ≡ ballotOf k n q (take count list) ⌝ }
 {
     let end = listed(count);
@@ -82,7 +86,7 @@ fn tally_in(k: u8, n: u8, q: Query, list: [Message; PLACES], count: usize) -> Ba
 }
 
 // The vote on the first `count` messages of an array.
-pub fn vote_in(k: u8, n: u8, q: Query, list: [Message; PLACES], count: usize) -> VoteAnswer
+pub fn vote_in(k: u8, n: u8, q: Query, list: [Message; LIST_PLACES], count: usize) -> VoteAnswer
     ensures { λ r. ⌜ voteAnswer r ≡ vote k n q (take count list) ⌝ }
 {
     tally_in(k, n, q, list, count).answer_vote(k, n)
@@ -94,7 +98,7 @@ pub fn count_halts_in(
     n: u8,
     group: u8,
     process: u8,
-    list: [Message; PLACES],
+    list: [Message; LIST_PLACES],
     count: usize,
 ) -> HaltAnswer
     ensures { λ r. ⌜ haltAnswer r ≡ haltCount k n group process (take count list) ⌝ }

@@ -15,22 +15,22 @@ use Rattle.record.proofs.check.check_write.Tie as tie
 abbrev whole : tie.Start → Answer Worked
 whole s = ask (writeQuestions (s .args .family) (s .args .k) (s .args .n) (s .args .f) (s .args .room)) (given worked)
 
-abbrev fieldsOf : tie.Start → List Question
-fieldsOf s = fieldQuestions (s .args .family) (s .args .k) (s .args .n) (s .args .f)
+abbrev fieldPart : tie.Start → List Question
+fieldPart s = fieldQuestions (s .args .family) (s .args .k) (s .args .n) (s .args .f)
 
 unit : (c : tie.After-check-unit) →
     let s = c .before in
-    next (outcome (c .check-unit .result)) (ask (fieldsOf s ++ roomQuestion (s .args .room)) (given worked)) ≡ whole s
+    next (outcome (c .check-unit .result)) (ask (fieldPart s ++ roomQuestion (s .args .room)) (given worked)) ≡ whole s
 unit c =
     let s = c .before in
-    ask-then (unitQuestions (s .args .k) (s .args .n)) (fieldsOf s ++ roomQuestion (s .args .room)) (given worked) _ (c .check-unit .ensures)
+    ask-then (unitQuestions (s .args .k) (s .args .n)) (fieldPart s ++ roomQuestion (s .args .room)) (given worked) _ (c .check-unit .ensures)
 
 fields : (c : tie.After-check-fields) →
     let s = c .before .before .before .before in
     next (outcome (c .check-fields .result)) (ask (roomQuestion (s .args .room)) (given worked)) ≡ whole s
 fields c =
     let s = c .before .before .before .before in
-    ask-then (fieldsOf s) (roomQuestion (s .args .room)) (given worked) _ (c .check-fields .ensures)
+    ask-then (fieldPart s) (roomQuestion (s .args .room)) (given worked) _ (c .check-fields .ensures)
     ∙ (rw (c .before .enum-told .given .1) at (unit (c .before .before .before)))
 
 returns : tie.Need-returns
