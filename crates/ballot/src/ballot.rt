@@ -16,11 +16,11 @@ use rules::Query;
 
 // A place for each number up to the last replica's; no replica has number 0. Copies of 8 values are
 // two loads that do not overlap; those of 7 overlap, and wait for each other.
-const PLACES: usize = LAST_REPLICA + 1;
+const VALUES: usize = LAST_REPLICA + 1;
 
 pub struct Ballot {
     // The value of each replica's first counting reply, at the index that is its number.
-    pub(crate) values: [u32; PLACES],
+    pub(crate) values: [u32; VALUES],
     // Sets of replicas (src/sets.rt): whose counting reply came, and whose counting halt.
     pub(crate) heard: u8,
     pub(crate) halted: u8,
@@ -54,7 +54,7 @@ impl Ballot {
         ensures { λ b. ⌜ b ≡ newBallot length ⌝ }
     {
         Ballot {
-            values: [0u32; PLACES],
+            values: [0u32; VALUES],
             heard: 0,
             halted: 0,
             short: length <= MAX_LIST,

@@ -11,6 +11,7 @@ use ballot::Ballot;
 use ballot::HaltAnswer;
 use ballot::VoteAnswer;
 use limits::MAX_LIST;
+use limits::at_most;
 use record::Message;
 use record::Timestamp;
 use rules::Query;
@@ -71,11 +72,7 @@ pub fn count_halts(k: u8, n: u8, group: u8, process: u8, list: &[Message]) -> Ha
 fn listed(count: usize) -> usize
     ensures { λ r. ⌜ r ≡ min count (suc maxList) ⌝ }
 {
-    if count <= LIST_PLACES {
-        count
-    } else {
-        LIST_PLACES
-    }
+    at_most(LIST_PLACES, count)
 }
 
 fn tally_in(k: u8, n: u8, q: Query, list: [Message; LIST_PLACES], count: usize) -> Ballot
