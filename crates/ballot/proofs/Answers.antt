@@ -3,12 +3,12 @@ use Prim.Native.Nat.{ℕ, zero, suc, _+_, _-_, _*_, _≤_, _<_}
 use mathlib.Core.Path.{_≡_, refl, sym, _∙_, ap}
 use mathlib.Core.Logic.{_⊎_, inl, inr, ⊎-elim}
 use mathlib.Core.Bool.{Bool, true, false, _&&_}
-use mathlib.Core.List.{List, [], _∷_}
+use mathlib.Core.List.{List}
 use native.Mathlib.Omega.{arith}
 use lib.Dec.{eqb, leb}
 use borrow.Author.Tests.{eqb-true, eqb-false, leb-true}
-use Rattle.question.specs.Question.{Question, _else_, Answer, given, refused, Worked, worked, ask, allYes, next, unitQuestions}
-use Rattle.question.proofs.Questions.{AllYes, all-yes, all-yes-parts, ask-after, next-asked}
+use Rattle.question.specs.Question.{Answer, given, refused, Worked, worked, ask, next, unitQuestions}
+use Rattle.question.proofs.Questions.{all-yes, all-yes-parts, ask-after, next-asked}
 use Rattle.question.proofs.Tests.{case, true-not-false, both, unit-facts}
 use Rattle.record.specs.Record.{messageFields, fieldQuestions, passes}
 use Rattle.record.specs.declared.kind.Family.the-variants.{Messages}

@@ -5,20 +5,17 @@ use mathlib.Core.Path.{_≡_, refl, sym, _∙_, ap, subst}
 use mathlib.Core.Logic.{⊎-elim}
 use mathlib.Core.List.{List, [], _∷_, List·Memᴰ, List·Memᴰ·head, List·Memᴰ·tail, List·Memᴰ·append-cases, List·Memᴰ·eq-of-singleton}
 use native.Mathlib.Omega.{arith}
-use lib.Dec.{leb, ltb}
 use lib.ListN.{length, length-append}
-use borrow.Author.Tests.{leb-true, ltb-true}
 use Rattle.limits.specs.Limits.{places}
-use Rattle.question.specs.Question.{_else_, Answer, given, refused, ask, bind, unitQuestions}
+use Rattle.question.specs.Question.{Answer, given, refused, unitQuestions}
 use Rattle.record.specs.Number.{Bytes}
-use Rattle.record.specs.Record.{readRequest}
 use Rattle.record.specs.declared.clock.LocalTime.{LocalTime}
 use Rattle.record.specs.declared.request.Request.{Request}
-use Rattle.question.proofs.Questions.{AllYes, ask-all-yes, ask-through}
+use Rattle.question.proofs.Questions.{AllYes}
 use Rattle.rules.specs.Lists.{keep}
 use Rattle.rules.specs.Batch.{still}
 use Rattle.rules.specs.declared.Settings.{Settings}
-use Rattle.rules.specs.Replica.{State, Stepped, timeQuestions, admit, arrive, deliver, ofGroup, visits, atTime, stepped, step}
+use Rattle.rules.specs.Replica.{State, Stepped, admit, arrive, deliver, ofGroup, visits, atTime, stepped, step}
 use Rattle.rules.specs.Run.{Call, delivery, turn, call, run, arrivalOf}
 use Rattle.rules.specs.declared.Pending.{Pending}
 use Rattle.laws.proofs.Step.{step-accepted, step-at-most-67}

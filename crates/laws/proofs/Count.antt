@@ -1,18 +1,17 @@
 -- How many messages a step sends: one for each request that it handles, and k more where the store fails.
 use Prim.Native.Nat.{ℕ, _+_, _≤_, _<_}
 use mathlib.Core.Path.{_≡_}
-use mathlib.Core.Bool.{true, false, cond, not, _&&_, and-eq-true-iff}
+use mathlib.Core.Bool.{true, cond}
 use mathlib.Core.List.{List}
 use native.Mathlib.Omega.{arith}
-use lib.Dec.{eqb}
 use lib.ListN.{length, getD, set, length-append, length-map}
 use lib.Seq.{getD-set-same}
-use borrow.Author.Tests.{eq-eqb, not-true}
+use borrow.Author.Tests.{eq-eqb}
 use Rattle.record.specs.declared.clock.Timestamp.{Timestamp}
 use Rattle.record.specs.declared.clock.LocalTime.{LocalTime}
 use Rattle.record.specs.declared.request.Request.{Request}
 use Rattle.rules.specs.Lists.{upTo}
-use Rattle.rules.specs.Batch.{firstOf, Store, Effect, still, follow, failed, perform, fail, allReads, unanimous, replyTo, haltTo, haltAll, handle}
+use Rattle.rules.specs.Batch.{firstOf, Store, Effect, still, follow, failed, perform, fail, replyTo, haltTo, handle}
 use Rattle.rules.specs.declared.Settings.{Settings}
 use Rattle.rules.specs.Replica.{State, requestsOf, groupTimestamp, batchOf, isStable, handleBatch, visits}
 use Rattle.rules.specs.declared.Pending.{Pending}

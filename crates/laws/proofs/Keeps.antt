@@ -1,19 +1,16 @@
 -- What a step does not change.
 use Prim.Native.Nat.{ℕ, _≤_}
 use mathlib.Core.Path.{_≡_, refl, _∙_}
-use mathlib.Core.Bool.{not, _&&_}
-use mathlib.Core.List.{List, [], _∷_, List·Memᴰ}
+use mathlib.Core.List.{List, List·Memᴰ}
 use native.Mathlib.Omega.{arith}
-use lib.Dec.{eqb}
-use lib.ListN.{length, length-set}
+use lib.ListN.{length}
 use Rattle.record.specs.declared.clock.Timestamp.{Timestamp}
 use Rattle.record.specs.declared.clock.LocalTime.{LocalTime}
 use Rattle.record.specs.declared.request.Request.{Request}
-use Rattle.rules.specs.Batch.{Store, failed, perform, allReads, unanimous, handle}
+use Rattle.rules.specs.Batch.{Store, handle}
 use Rattle.rules.specs.declared.Settings.{Settings}
 use Rattle.rules.specs.Replica.{State, requestsOf, groupTimestamp, batchOf, handleBatch, visits}
 use Rattle.rules.specs.declared.Pending.{Pending}
-use Rattle.question.proofs.Tests.{case}
 use Rattle.laws.proofs.Least.{others-in, others-batch}
 use Rattle.laws.proofs.Verdict.{handle-view, handled-variables}
 use Rattle.laws.proofs.Visits.{visits-all}

@@ -2,19 +2,17 @@
 use Prim.Native.Nat.{ℕ, _+_, _<_}
 use mathlib.Core.Path.{_≡_, refl, sym, _∙_, ap, subst}
 use mathlib.Core.Logic.{_⊎_, inl, inr, ⊎-elim}
-use mathlib.Core.Bool.{true, false, not, _&&_}
+use mathlib.Core.Bool.{true, false}
 use mathlib.Core.List.{List, [], List·Memᴰ, List·Memᴰ·not-nil, List·Memᴰ·append-cases}
-use lib.Dec.{eqb}
 use Rattle.record.specs.declared.clock.Timestamp.{Timestamp}
 use Rattle.record.specs.declared.clock.LocalTime.{LocalTime}
 use Rattle.record.specs.declared.request.Request.{Request}
 use Rattle.record.specs.declared.message.Message.{Message}
-use Rattle.rules.specs.Lists.{upTo}
-use Rattle.rules.specs.Batch.{Store, Effect, still, follow, failed, allReads, unanimous, replyTo, haltTo, handle}
+use Rattle.rules.specs.Batch.{Store, Effect, still, follow, handle}
 use Rattle.rules.specs.declared.Settings.{Settings}
 use Rattle.rules.specs.Replica.{State, requestsOf, groupTimestamp, batchOf, isStable, handleBatch, visits, batchAt}
 use Rattle.rules.specs.declared.Pending.{Pending}
-use Rattle.question.proofs.Tests.{case, true-not-false}
+use Rattle.question.proofs.Tests.{true-not-false}
 use Rattle.laws.proofs.Lists.{map-in}
 use Rattle.laws.proofs.Least.{stable-hit, batchAt-in, others-none, others-whole}
 use Rattle.laws.proofs.Verdict.{Said, replied, halted, handled-said, handle-view}

@@ -3,10 +3,9 @@
 use Prim.Native.Nat.{ℕ, zero, suc, _+_, _*_, _^_, _≤_, _<_}
 use mathlib.Core.Path.{_≡_, refl, sym, _∙_, subst}
 use mathlib.Core.Logic.{_≢_, ⊎-elim}
-use mathlib.Core.Bool.{true, false, not, _&&_, and-eq-true-iff}
-use mathlib.Core.List.{List, [], _∷_, List·Memᴰ, List·Memᴰ·head, List·Memᴰ·not-nil, List·Memᴰ·append-cases}
+use mathlib.Core.Bool.{true}
+use mathlib.Core.List.{List, [], _∷_, List·Memᴰ, List·Memᴰ·not-nil, List·Memᴰ·append-cases}
 use native.Mathlib.Omega.{arith}
-use lib.Dec.{eqb}
 use lib.ListN.{length, getD, set, replicate, length-set, length-replicate}
 use lib.Seq.{getD-set-same, getD-set-other}
 use Rattle.limits.specs.Limits.{places}
@@ -17,9 +16,8 @@ use Rattle.record.specs.declared.clock.LocalTime.{LocalTime}
 use Rattle.record.specs.declared.kind.Family.the-variants.{Messages}
 use Rattle.record.specs.declared.message.Message.{Message}
 use Rattle.record.specs.declared.request.Request.{Request}
-use Rattle.rules.specs.Lists.{every, upTo}
 use Rattle.record.specs.Kind.{isWrite}
-use Rattle.rules.specs.Batch.{firstOf, Store, Effect, follow, newStore, valueOf, failed, allReads, allSame, allSendersDiffer, unanimous, perform, fail, replyTo, haltTo, handle}
+use Rattle.rules.specs.Batch.{firstOf, Store, Effect, follow, newStore, valueOf, perform, replyTo, haltTo, handle}
 use Rattle.rules.specs.declared.Settings.{Settings}
 use Rattle.rules.specs.Replica.{State, newState, requestsOf, groupTimestamp, batchOf, isStable, handleBatch, visits}
 use Rattle.rules.specs.declared.Pending.{Pending}
@@ -28,7 +26,7 @@ use Rattle.laws.proofs.Lists.{every-in, map-in, upTo-in}
 use Rattle.laws.proofs.Least.{stable-hit, batchAt-in}
 use Rattle.laws.proofs.Verdict.{Unanimous, Handled, answered, performed, failing, passed, Said, replied, halted, handled-said, handle-view}
 use Rattle.laws.proofs.Visits.{visits-all}
-use Rattle.laws.proofs.Keeps.{Keeps, batch-keeps, handle-variables}
+use Rattle.laws.proofs.Keeps.{Keeps, batch-keeps}
 use Rattle.laws.proofs.Records.{Sendable, AllSendable}
 use Rattle.laws.proofs.Accepted.{Made, Proper}
 

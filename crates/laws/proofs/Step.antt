@@ -5,7 +5,6 @@ use mathlib.Core.Logic.{_⊎_}
 use mathlib.Core.Bool.{false}
 use mathlib.Core.List.{List, [], _∷_, _++_, List·Memᴰ}
 use native.Mathlib.Omega.{arith}
-use lib.Dec.{leb}
 use lib.ListN.{length, replicate}
 use Rattle.limits.specs.Limits.{maxK, maxSent, places, outputSize}
 use Rattle.question.specs.Question.{given, ask, mapAnswer}

@@ -4,19 +4,13 @@ use Prim.Native.Nat.{ℕ, _+_, _≤_}
 use mathlib.Core.Path.{_≡_, refl, sym, _∙_, ap, subst}
 use mathlib.Core.Logic.{⊎-elim}
 use mathlib.Core.List.{List, [], _∷_, List·Memᴰ, List·Memᴰ·not-nil, List·Memᴰ·append-cases, List·Memᴰ·eq-of-singleton, Memᴰ·append-left, Memᴰ·append-right, Memᴰ·map}
-use native.Mathlib.Omega.{arith}
-use lib.Dec.{eqb, ltb}
-use lib.ListN.{length}
 use borrow.Author.Tests.{eq-eqb}
-use Rattle.question.specs.Question.{_else_, Answer, given, refused, ask, bind, after, unitQuestions}
-use Rattle.record.specs.Layout.{fieldsOf}
+use Rattle.question.specs.Question.{Answer, given, refused, bind, after}
 use Rattle.record.specs.declared.clock.LocalTime.{LocalTime}
 use Rattle.record.specs.declared.request.Request.{Request}
-use Rattle.question.proofs.Questions.{ask-all-yes, ask-through}
-use Rattle.question.proofs.Tests.{within-true}
 use Rattle.rules.specs.Batch.{Store, newStore, handle}
 use Rattle.rules.specs.declared.Settings.{Settings}
-use Rattle.rules.specs.Replica.{State, Stepped, newState, timeQuestions, admit, arrive, deliver, requestsOf, groupTimestamp, batchOf, handleBatch, visits, atTime, stepped, step}
+use Rattle.rules.specs.Replica.{State, Stepped, newState, admit, arrive, deliver, requestsOf, groupTimestamp, batchOf, handleBatch, visits, atTime, stepped, step}
 use Rattle.rules.specs.Run.{Call, delivery, turn, sentBy, call, run, arrived, arrivalOf, arrivals}
 use Rattle.rules.specs.declared.Pending.{Pending}
 use Rattle.laws.proofs.Lists.{map-in}

@@ -1,20 +1,19 @@
 -- What the questions of a record's fields say where each is answered yes, by name. Assumes nothing.
 use Prim.Native.Nat.{ℕ, _+_, _*_, _≤_}
-use mathlib.Core.Path.{_≡_, refl, sym, _∙_}
+use mathlib.Core.Path.{_≡_}
 use mathlib.Core.Bool.{Bool, true, false, _&&_, _||_}
-use mathlib.Core.List.{List, [], _∷_, _++_}
 use lib.Dec.{eqb}
-use borrow.Author.Tests.{eqb-true, eq-eqb}
+use borrow.Author.Tests.{eqb-true}
 use native.Mathlib.Omega.{arith}
-use Rattle.question.specs.Question.{Question, _else_, within, unitQuestions}
+use Rattle.question.specs.Question.{within}
 use Rattle.question.proofs.Questions.{AllYes, all-yes-parts, all-yes-both}
-use Rattle.question.proofs.Tests.{both, other, within-true, UnitFacts}
-use Rattle.record.specs.Kind.{write, familyNumber, familyOf, isOf, rowOf}
+use Rattle.question.proofs.Tests.{both, other, within-true}
+use Rattle.record.specs.Kind.{write, isOf, rowOf}
 use Rattle.record.specs.Record.{hasSender, senderQuestions, allowsVariable, sparesZero, allowsValue, contentQuestions, fieldQuestions}
 use Rattle.record.specs.declared.fields.Fields.{Fields}
 use Rattle.record.specs.declared.kind.Family.{Family}
-use Rattle.record.specs.declared.kind.Family.the-variants.{Requests, Messages, Neither}
-use Rattle.record.proofs.Rows.{kind-small, greatest-small, bytes6-spare, bytes20-spare}
+use Rattle.record.specs.declared.kind.Family.the-variants.{Messages}
+use Rattle.record.proofs.Rows.{greatest-small, bytes6-spare, bytes20-spare}
 
 pub record FieldFacts (family : Family) (k n : ℕ) (f : Fields) : Type 0 where
   pub kind : isOf family (f .kind) ≡ true

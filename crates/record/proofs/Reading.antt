@@ -9,7 +9,7 @@ use Rattle.limits.specs.Limits.{recordSize}
 use Rattle.question.specs.Question.{Question, _else_, Answer, given, refused, Worked, worked, ask, mapAnswer, next, after, verdict, outcome, unitQuestions}
 use Rattle.question.specs.declared.Outcome.{Outcome}
 use Rattle.question.specs.declared.Outcome.the-variants.{Done, Refused}
-use Rattle.question.proofs.Questions.{AllYes, all-yes-parts, all-yes-both, ask-chain, ask-yes, ask-all-yes, ask-through, ask-map, ask-verdict, next-asked, same-given}
+use Rattle.question.proofs.Questions.{AllYes, all-yes-parts, all-yes-both, ask-chain, ask-yes, ask-all-yes, ask-map, ask-verdict, next-asked, same-given}
 use Rattle.record.specs.Layout.{fieldsOf, bytesOf}
 use Rattle.record.specs.Record.{fieldQuestions, readQuestions, readFields, writeQuestions, writeFields}
 use Rattle.record.specs.declared.fields.Fields.{Fields}

@@ -1,15 +1,12 @@
 -- What a kind decides, from its family and its row. Assumes nothing.
 use Prim.Native.Nat.{ℕ, _≤_}
-use mathlib.Core.Path.{_≡_, refl, sym, _∙_}
-use mathlib.Core.Bool.{Bool, true, false, cond}
+use mathlib.Core.Path.{_≡_, refl}
+use mathlib.Core.Bool.{true, false}
 use lib.Dec.{eqb}
-use borrow.Author.Tests.{eqb-true}
 use native.Mathlib.Omega.{arith}
 use Rattle.question.specs.Question.{within}
-use Rattle.question.proofs.Tests.{case, true-not-false, within-true}
-use Rattle.record.specs.Kind.{read, write, reply, halt, familyOf, familyNumber, isOf, row, rowOf}
-use Rattle.record.specs.declared.kind.Family.{Family}
-use Rattle.record.specs.declared.kind.Family.the-variants.{Requests, Messages, Neither}
+use Rattle.question.proofs.Tests.{case, within-true}
+use Rattle.record.specs.Kind.{read, write, reply, halt, familyOf, familyNumber, row, rowOf}
 use Rattle.record.specs.declared.kind.Row.{Row}
 
 -- a kind of either family is at most 4
