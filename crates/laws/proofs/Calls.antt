@@ -1,25 +1,26 @@
 -- What a call to a sound replica does: nothing, or one request arrives, or a step's visits; and the messages of a step are those that
 -- its visits send, read back from the bytes.
-use Prim.Native.Nat.{ℕ, _≤_, _<_}
+use Prim.Native.Nat.{ℕ, _*_, _≤_, _<_}
 use mathlib.Core.Path.{_≡_, refl, sym, _∙_, ap, subst}
 use mathlib.Core.Logic.{⊎-elim}
-use mathlib.Core.List.{List, [], _∷_, List·Memᴰ, List·Memᴰ·head, List·Memᴰ·tail, List·Memᴰ·append-cases, List·Memᴰ·eq-of-singleton}
+use mathlib.Core.List.{List, [], _∷_, _++_, List·Memᴰ, List·Memᴰ·head, List·Memᴰ·tail, List·Memᴰ·append-cases, List·Memᴰ·eq-of-singleton}
 use native.Mathlib.Omega.{arith}
-use lib.ListN.{length, length-append}
-use Rattle.limits.specs.Limits.{places}
+use lib.ListN.{length, drop, length-append}
+use Rattle.limits.specs.Limits.{places, recordSize}
 use Rattle.question.specs.Question.{Answer, given, refused, unitQuestions}
 use Rattle.record.specs.Number.{Bytes}
 use Rattle.record.specs.declared.clock.LocalTime.{LocalTime}
 use Rattle.record.specs.declared.request.Request.{Request}
+use Rattle.record.specs.declared.message.Message.{Message}
 use Rattle.question.proofs.Questions.{AllYes}
 use Rattle.rules.specs.Lists.{keep}
-use Rattle.rules.specs.Batch.{still}
+use Rattle.rules.specs.Batch.{Effect, still}
 use Rattle.rules.specs.declared.Settings.{Settings}
-use Rattle.rules.specs.Replica.{State, Stepped, admit, arrive, deliver, ofGroup, visits, atTime, stepped, step}
-use Rattle.rules.specs.Run.{Call, delivery, turn, call, run, arrivalOf}
+use Rattle.rules.specs.Replica.{State, Stepped, admit, arrive, deliver, ofGroup, visits, atTime, Written, written, putAll, stepped, step}
+use Rattle.rules.specs.Run.{Call, delivery, turn, messagesIn, sentBy, call, run, arrivalOf}
 use Rattle.rules.specs.declared.Pending.{Pending}
 use Rattle.laws.proofs.Step.{step-accepted, step-at-most-67}
-use Rattle.laws.proofs.Records.{AllSendable, read-written-messages}
+use Rattle.laws.proofs.Records.{recordBytes, written-records, read-records}
 use Rattle.laws.proofs.Accepted.{Made, Proper, read-proper, admit-admitted, step-late, step-room}
 use Rattle.laws.proofs.Sound.{Sound, visits-soundly}
 
@@ -33,6 +34,12 @@ LentTo (turn now output) = Unit {0}
 abbrev pub AllLent : List Call → Type 0
 AllLent calls = (c : Call) → List·Memᴰ c calls → LentTo c
 
+-- what stands in the output: as many records as were counted, those of the messages, before the old bytes, and they are read back
+pub record Wrote (u : Settings) (sent : List Message) (output : List ℕ) (d : Stepped) : Type 0 where
+  pub count : d .count ≡ length sent
+  pub records : d .output ≡ recordBytes sent ++ drop (recordSize * length sent) output
+  pub read : messagesIn (u .k) (u .groups) (d .count) (d .output) ≡ sent
+
 -- a call that is refused, a delivery that is accepted, a step that is
 pub data Act (u : Settings) (s : State) (c : Call) : Type 0 where
   nothing : call s c ≡ still s → arrivalOf s c ≡ [] → Act u s c
@@ -44,23 +51,41 @@ module _ (u : Settings) (me : ℕ) (ok : Made u me) where
   at-sound : (s : State) (now : LocalTime) → Sound u me s → Sound u me (atTime now s)
   at-sound s now h = record { settings = h .settings; number = h .number; pending = h .pending; few = h .few; store = h .store }
 
+  -- what an accepted step wrote: its answer counts what its visits send, and the records of that stand before the old bytes
+  pub step-wrote : (s : State) (now : LocalTime) (output : List ℕ) {d : Stepped} → Sound u me s → step s now output ≡ given d
+      → Wrote u (visits (u .groups) now (atTime now s) .sent) output d
+  unfolding stepped
+  step-wrote s now output {d} h e =
+      let done : Effect State = visits (u .groups) now (atTime now s) in
+      let n = length (done .sent) in
+      let groups : visits (s .settings .groups) now (atTime now s) ≡ done = ap (λ (v : Settings). visits (v .groups) now (atTime now s)) (h .settings) in
+      let most : n ≤ 67 =
+      rw groups at (step-at-most-67 s now (rw (h .settings) (ok .k)) (h .few) (omega (arith, h .store .variables))) in
+      let sendable = visits-soundly u me ok (u .groups) now (atTime now s) (at-sound s now h) .1 in
+      let records = written-records (u .k) (u .groups) (ok .unit) (done .sent) output sendable (omega (arith, step-room s now output e)) in
+      let same : written (d .count) (d .output) ≡ written n (recordBytes (done .sent) ++ drop (recordSize * n) output) =
+      ap (λ (x : Stepped). written (x .count) (x .output)) (step-accepted s now output e)
+      ∙ (ap (λ (v : Settings). putAll (v .k) (v .groups) (written 0 output) (visits (v .groups) now (atTime now s) .sent)) (h .settings) ∙ records) in
+      let count = ap (λ (w : Written). w .count) same in
+      let bytes = ap (λ (w : Written). w .output) same in
+      record {
+        count = count;
+        records = bytes;
+        read = rw (count, bytes) (read-records (u .k) (u .groups) (ok .unit) (done .sent) (drop (recordSize * n) output) sendable);
+      }
+
   -- an accepted step as a call: the messages whose records it wrote are those that its visits send
   pub call-step : (s : State) (now : LocalTime) (output : List ℕ) {d : Stepped} → Sound u me s → step s now output ≡ given d
       → call s (turn now output) ≡ visits (u .groups) now (atTime now s)
   unfolding call stepped
-  call-step s now output h e =
-      let v = s .settings in
-      let done = visits (v .groups) now (atTime now s) in
-      let same = step-accepted s now output e in
-      let most = step-at-most-67 s now output e (rw (h .settings) (ok .k)) (h .few) (omega (arith, h .store .variables)) in
-      let count : length (done .sent) ≤ 67 = rw same at most in
-      let unit = subst (λ (x : Settings). AllYes (unitQuestions (x .k) (x .groups))) (sym (h .settings)) (ok .unit) in
-      let sendable =
-      subst (λ (x : Settings). AllSendable (x .k) (x .groups) (done .sent)) (sym (h .settings))
-      (visits-soundly u me ok (v .groups) now (atTime now s) (at-sound s now h) .1) in
-      let back = read-written-messages (v .k) (v .groups) unit (done .sent) output sendable (omega (arith, step-room s now output e)) in
-      rw (e, same) (ap (λ messages. record { state = done .state; sent = messages }) back)
-      ∙ ap (λ (x : Settings). visits (x .groups) now (atTime now s)) (h .settings)
+  call-step s now output {d} h e =
+      let state : d .state ≡ visits (u .groups) now (atTime now s) .state =
+      ap (λ (x : Stepped). x .state) (step-accepted s now output e)
+      ∙ ap (λ (v : Settings). visits (v .groups) now (atTime now s) .state) (h .settings) in
+      let sent =
+      subst (λ (v : Settings). messagesIn (v .k) (v .groups) (d .count) (d .output) ≡ visits (u .groups) now (atTime now s) .sent)
+      (sym (h .settings)) (step-wrote s now output h e .read) in
+      ap (sentBy s) e ∙ rw (state, sent)
 
   pub call-act : (s : State) (c : Call) → Sound u me s → LentTo c → Act u s c
   unfolding call deliver

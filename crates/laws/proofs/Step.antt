@@ -7,14 +7,17 @@ use mathlib.Core.List.{List, [], _∷_, _++_, List·Memᴰ}
 use native.Mathlib.Omega.{arith}
 use lib.ListN.{length, replicate}
 use Rattle.limits.specs.Limits.{maxK, maxSent, places, outputSize}
-use Rattle.question.specs.Question.{given, ask, mapAnswer}
+use Rattle.question.specs.Question.{given, ask, mapAnswer, unitQuestions}
+use Rattle.record.specs.Number.{digits}
+use Rattle.record.specs.Layout.{bytesOf}
 use Rattle.record.specs.Kind.{read, write}
+use Rattle.record.specs.Record.{fieldQuestions, writeFields}
 use Rattle.record.specs.declared.clock.Timestamp.{Timestamp}
 use Rattle.record.specs.declared.clock.LocalTime.{LocalTime}
 use Rattle.record.specs.declared.message.Message.{Message}
 use Rattle.question.proofs.Questions.{ask-through, same-given}
 use Rattle.rules.specs.Batch.{verdictOf, newStore, handle}
-use Rattle.rules.specs.Replica.{State, Stepped, stepQuestions, batchOf, isStable, handleBatch, visit, visits, atTime, stepped, step, batchAt}
+use Rattle.rules.specs.Replica.{State, Stepped, stepQuestions, batchOf, isStable, handleBatch, visit, visits, atTime, put, putAll, stepped, step, batchAt}
 use Rattle.rules.specs.declared.Pending.{Pending}
 use Rattle.laws.proofs.Keeps.{Keeps, visits-keep}
 use Rattle.laws.proofs.Settles.{visits-settle}
@@ -50,11 +53,10 @@ module _ (s : State) (now : LocalTime) (output : List ℕ) {d : Stepped} (e : st
   unfolding stepped
   step-keeps = rw (step-accepted s now output e) (visits-keep (s .settings .groups) now (atTime now s))
 
-  -- 67 records are room enough
-  pub step-at-most-67 : s .settings .k ≤ maxK → length (s .pending) ≤ places → 0 < length (s .store .variables) → d .count ≤ maxSent
-  unfolding stepped
-  step-at-most-67 k pending variables =
-      rw (step-accepted s now output e) (omega (arith, visits-cost (s .settings .groups) now (atTime now s) variables))
+-- 67 records are room enough for what a step sends
+pub step-at-most-67 : (s : State) (now : LocalTime) → s .settings .k ≤ maxK → length (s .pending) ≤ places → 0 < length (s .store .variables)
+    → length (visits (s .settings .groups) now (atTime now s) .sent) ≤ maxSent
+step-at-most-67 s now k pending variables = omega (arith, visits-cost (s .settings .groups) now (atTime now s) variables)
 
 -- ── 67 is reached: 63 reads, and a write of one process alone that fails the store ──
 
@@ -78,5 +80,5 @@ full = record {
 }
 
 pub sixty-seven-sent : mapAnswer (λ d. d .count) (step full (record { 0 = 1 }) (replicate outputSize 0)) ≡ given maxSent
-unfolding ask verdictOf handle handleBatch visit visits stepped step
+unfolding ask unitQuestions digits bytesOf fieldQuestions writeFields verdictOf handle handleBatch visit visits put putAll stepped step
 sixty-seven-sent = refl

@@ -1,146 +1,105 @@
--- The output while it is written: each message stands behind those before it, and where there is no room nothing is written.
-use Prim.Native.Nat.{ℕ, zero, suc, _+_, _-_, _*_, _≤_, _<_}
-use mathlib.Core.Path.{_≡_, refl, sym, ap, _∙_}
-use mathlib.Core.Logic.{_⊎_, inl, inr, ⊎-elim}
-use mathlib.Core.List.{List, [], _∷_, _++_, map, append-nil, append-assoc, map-append}
-use native.Mathlib.Nat.{add-zero}
+-- The output while it is written: each message stands behind those before it, and where it is refused nothing is written.
+use Prim.Native.Nat.{ℕ, suc, _+_, _*_, _-_, _≤_, _<_}
+use mathlib.Core.Path.{_≡_, refl, sym, _∙_}
+use mathlib.Core.List.{List, [], _∷_, _++_, map, append-nil, map-append}
 use native.Mathlib.Numerals.{add-one}
 use native.Mathlib.Omega.{arith}
-use lib.ListN.{length, take, drop, length-append, length-map, length-drop, take-append-drop, drop-of-length-le}
-use lib.Seq.{take-all, take-add, drop-drop, drop-at}
+use lib.ListN.{length, take, drop, length-drop, take-append-drop, drop-of-length-le}
+use lib.Seq.{take-all}
 use borrow.Rule.Slice.PartMut.{putMid}
-use Rattle.question.specs.Question.{Answer, given, refused, after}
-use Rattle.record.specs.Layout.{bytesOf}
+use Rattle.question.specs.Question.{Answer, given, refused, worked, after, verdict}
 use Rattle.record.specs.Record.{messageFields, writeMessage}
 use Rattle.record.specs.declared.kind.Family.the-variants.{Messages}
 use Rattle.record.specs.declared.message.Message.{Message}
 use Rattle.rules.specs.Lists.{upTo}
-use Rattle.rules.specs.Replica.{writeAll}
+use Rattle.rules.specs.Replica.{Written, written, behind, put, putAll}
 use Rattle.question.proofs.Tests.{unit-facts}
-use Rattle.record.proofs.Layouts.{length-bytes-of}
-use Rattle.record.proofs.Reading.{write-given, write-writable}
-use Rattle.laws.proofs.Lists.{length-upTo}
-use Rattle.replica.specs.Output.{writeAt}
+use Rattle.record.proofs.Reading.{write-writable}
 
 -- ── one message ──
 
-module _ (k n : ℕ) (m : Message) (d : List ℕ) where
-  -- what a destination holds afterwards
-  abbrev wrote : List ℕ
-  wrote = after d (writeMessage k n m d)
+module _ (k n : ℕ) (m : Message) (count : ℕ) (o : List ℕ) where
+  -- the part of the output that begins where the last record ended
+  abbrev part : List ℕ
+  part = drop (24 * count) o
 
-  -- a message that is written had room, and k was a unit's
-  data Wrote : Type 0 where
-    nothing : wrote ≡ d → Wrote
-    record24 : k ≤ 3 → 24 ≤ length d → wrote ≡ bytesOf (messageFields m) ++ drop 24 d → Wrote
+  abbrev answer : Answer (List ℕ)
+  answer = writeMessage k n m part
 
-  wrote-is : Wrote
-  wrote-is = go (writeMessage k n m d) refl
+  -- as it is lent, and as it comes back
+  abbrev lent : List ℕ
+  lent = take (length o - count * 24) (drop (count * 24) o)
+
+  abbrev back : List ℕ
+  back = putMid (count * 24) (length o - count * 24) o (after lent (writeMessage k n m lent))
+
+  part-lent : count * 24 ≤ length o → lent ≡ part
+  part-lent h =
+      let e : count * 24 ≡ 24 * count = omega arith in
+      rw e (take-all (length o - 24 * count) part (rw length-drop (omega arith)))
+
+  part-back : count * 24 ≤ length o → back ≡ take (24 * count) o ++ after part answer
+  part-back h =
+      let e : count * 24 ≡ 24 * count = omega arith in
+      let none : drop (length o - 24 * count) part ≡ [] = drop-of-length-le part {i = length o - 24 * count} (rw length-drop (omega arith)) in
+      rw (part-lent h, e, none, append-nil)
+
+  -- a message that was written counts
+  pub put-done : count * 24 ≤ length o → verdict (writeMessage k n m lent) ≡ given worked → written (count + 1) back ≡ put k n (written count o) m
+  unfolding put
+  put-done h e = rw (part-back h) (go answer (rw (part-lent h) at e))
     where
-      go : (a : Answer (List ℕ)) → writeMessage k n m d ≡ a → Wrote
-      go (refused number) e = nothing (ap (after d) e)
-      go (given bytes) e =
-          let w = write-writable Messages k n (messageFields m) d e in
-          record24 (unit-facts k n (w .unit) .k-high) (w .room) (ap (after d) (write-given Messages k n w))
+      go : (a : Answer (List ℕ)) → verdict a ≡ given worked → written (count + 1) (take (24 * count) o ++ after part a) ≡ behind (written count o) a
+      go (given rest) e = refl
+      go (refused number) e = absurd (let z : _≡_ {A = ℕ} 0 1 = cc in omega arith)
 
-  wrote-rest : drop 24 wrote ≡ drop 24 d
-  wrote-rest = go wrote-is
+  -- one that was refused changes nothing
+  pub put-refused : {number : ℕ} → count * 24 ≤ length o → verdict (writeMessage k n m lent) ≡ refused number → written count back ≡ put k n (written count o) m
+  unfolding put
+  put-refused h e = rw (part-back h) (go answer (rw (part-lent h) at e))
     where
-      go : Wrote → drop 24 wrote ≡ drop 24 d
-      go (nothing e) = ap (drop 24) e
-      go (record24 unit room e) = rw e (drop-at (bytesOf (messageFields m)) (drop 24 d) 24 (length-bytes-of (messageFields m)))
-
-  wrote-length : length wrote ≡ length d
-  wrote-length = go wrote-is
-    where
-      go : Wrote → length wrote ≡ length d
-      go (nothing e) = ap length e
-      go (record24 unit room e) =
-          rw (e, length-append, length-bytes-of, length-drop) (omega arith)
-
-  wrote-nothing : (3 < k) ⊎ (length d < 24) → wrote ≡ d
-  wrote-nothing h = go wrote-is
-    where
-      go : Wrote → wrote ≡ d
-      go (nothing e) = e
-      go (record24 unit room e) = absurd (⊎-elim (λ (x : 3 < k). omega arith) (λ (x : length d < 24). omega arith) h)
-
--- ── messages behind the first records ──
-
--- what was in front, and what is put behind it
-front : (a : ℕ) (o x : List ℕ) → length x ≡ length (drop a o) → (take a (take a o ++ x) ≡ take a o) × (drop a (take a o ++ x) ≡ x)
-front zero o x e = (refl, refl)
-front (suc a) [] [] e = (refl, refl)
-front (suc a) [] (y ∷ x) e = absurd (omega arith)
-front (suc a) (y ∷ o) x e = let h = front a o x e in (ap (λ (l : List ℕ). y ∷ l) (h .0), h .1)
-
-module _ (k n count : ℕ) where
-  abbrev at : ℕ
-  at = 24 * count
-
-  pub write-none : (o : List ℕ) → writeAt k n count [] o ≡ o
-  unfolding writeAt writeAll
-  write-none o = take-append-drop at o
-
-  pub write-one : (m : Message) (o : List ℕ) → writeAt k n count (m ∷ []) o ≡ take at o ++ wrote k n m (drop at o)
-  unfolding writeAt writeAll
-  write-one m o =
-      let d = drop at o in
-      rw (← wrote-rest k n m d, take-append-drop 24 (wrote k n m d))
-
-  -- one message, and then the others behind it
-  pub write-next : (m : Message) (ms : List Message) (o : List ℕ)
-      → writeAt k n count (m ∷ ms) o ≡ writeAt k n (count + 1) ms (writeAt k n count (m ∷ []) o)
-  unfolding writeAt writeAll
-  write-next m ms o =
-      let d = drop at o in
-      let f = front at o (wrote k n m d) (wrote-length k n m d) in
-      let e : 24 * (count + 1) ≡ at + 24 = omega arith in
-      let w = take at o ++ wrote k n m d in
-      let one : take at o ++ (take 24 (wrote k n m d) ++ drop 24 d) ≡ w = write-one m o in
-      rw (one, e, take-add at 24 w, ← drop-drop 24 at w, f .0, f .1, wrote-rest k n m d)
-      (sym (append-assoc (take at o) (take 24 (wrote k n m d)) (writeAll k n ms (drop 24 d))))
+      go : (a : Answer (List ℕ)) {number : ℕ} → verdict a ≡ refused number
+          → written count (take (24 * count) o ++ after part a) ≡ behind (written count o) a
+      go (given rest) e = absurd (let z : _≡_ {A = ℕ} 0 1 = cc in omega arith)
+      go (refused number) e = rw (take-append-drop (24 * count) o)
 
   -- no record has room
-  pub write-full : (m : Message) (o : List ℕ) → length o < at + 24 → writeAt k n count (m ∷ []) o ≡ o
-  write-full m o h =
-      write-one m o
-      ∙ rw (wrote-nothing k n m (drop at o) (inr (rw length-drop (omega arith)))) (take-append-drop at o)
+  pub put-full : length o < 24 * count + 24 → written count o ≡ put k n (written count o) m
+  unfolding put
+  put-full h = go answer refl
+    where
+      go : (a : Answer (List ℕ)) → answer ≡ a → written count o ≡ behind (written count o) answer
+      go (given rest) e =
+          let room : 24 ≤ length part = write-writable Messages k n (messageFields m) part e .room in
+          absurd (omega (arith, length-drop (24 * count) o, room))
+      go (refused number) e = rw e
 
-  -- one record, written through the part of the output that begins where the last ended
-  pub write-part : (m : Message) (o : List ℕ) → count * 24 ≤ length o
-      → putMid (count * 24) (length o - count * 24) o (wrote k n m (take (length o - count * 24) (drop (count * 24) o)))
-      ≡ writeAt k n count (m ∷ []) o
-  write-part m o h =
-      let e : count * 24 ≡ at = omega arith in
-      let all : take (length o - at) (drop at o) ≡ drop at o = take-all (length o - at) (drop at o) (rw length-drop (omega arith)) in
-      let none : drop (length o - at) (drop at o) ≡ [] = drop-of-length-le (drop at o) {i = length o - at} (rw length-drop (omega arith)) in
-      rw (e, all, none, append-nil) (sym (write-one m o))
+  -- k is no unit's
+  pub put-no-unit : 3 < k → put k n (written count o) m ≡ written count o
+  unfolding put
+  put-no-unit h = go answer refl
+    where
+      go : (a : Answer (List ℕ)) → answer ≡ a → behind (written count o) answer ≡ written count o
+      go (given rest) e =
+          let unit = write-writable Messages k n (messageFields m) part e .unit in
+          absurd (omega (arith, unit-facts k n unit .k-high))
+      go (refused number) e = rw e
 
--- ── runs of messages ──
+-- ── messages, one after the other ──
 
-pub write-append : (k n count : ℕ) (a b : List Message) (o : List ℕ)
-    → writeAt k n count (a ++ b) o ≡ writeAt k n (count + length a) b (writeAt k n count a o)
-write-append k n count [] b o = rw (add-zero count, write-none k n count o)
-write-append k n count (m ∷ a) b o =
-    let e : count + suc (length a) ≡ count + 1 + length a = omega arith in
-    write-next k n count m (a ++ b) o
-    ∙ (write-append k n (count + 1) a b (writeAt k n count (m ∷ []) o)
-    ∙ rw (e, write-next k n count m a o))
+pub put-append : (k n : ℕ) (w : Written) (a b : List Message) → putAll k n w (a ++ b) ≡ putAll k n (putAll k n w a) b
+unfolding putAll
+put-append k n w [] b = refl
+put-append k n w (m ∷ a) b = put-append k n (put k n w m) a b
 
 -- where k is no unit's, nothing is written
-pub write-no-unit : (k n count : ℕ) (ms : List Message) (o : List ℕ) → 3 < k → writeAt k n count ms o ≡ o
-write-no-unit k n count [] o h = write-none k n count o
-write-no-unit k n count (m ∷ ms) o h =
-    write-next k n count m ms o ∙ (write-no-unit k n (count + 1) ms (writeAt k n count (m ∷ []) o) h ∙ one)
-  where
-    one : writeAt k n count (m ∷ []) o ≡ o
-    one = write-one k n count m o ∙ rw (wrote-nothing k n m (drop (24 * count) o) (inl h)) (take-append-drop (24 * count) o)
+pub none-written : (k n : ℕ) (w : Written) (messages : List Message) → 3 < k → putAll k n w messages ≡ w
+unfolding putAll
+none-written k n w [] h = refl
+none-written k n w (m ∷ messages) h = rw (put-no-unit k n m (w .count) (w .output) h) (none-written k n w messages h)
 
--- to each of 1 to n a message, ascending
-pub write-up-to : (k n count : ℕ) (f : ℕ → Message) (p : ℕ) (o : List ℕ)
-    → writeAt k n (count + p) (f (p + 1) ∷ []) (writeAt k n count (map f (upTo p)) o) ≡ writeAt k n count (map f (upTo (p + 1))) o
-write-up-to k n count f p o =
-    let e : length (map f (upTo p)) ≡ p = length-map (upTo p) f ∙ length-upTo p in
-    let all = write-append k n count (map f (upTo p)) (f (suc p) ∷ []) o in
-    rw (add-one p, map-append) (sym (rw e at all))
+-- to each of 1 to p + 1 a message, ascending
+pub put-up-to : (k n : ℕ) (w : Written) (f : ℕ → Message) (p : ℕ)
+    → put k n (putAll k n w (map f (upTo p))) (f (p + 1)) ≡ putAll k n w (map f (upTo (p + 1)))
+unfolding putAll
+put-up-to k n w f p = rw (add-one p, map-append) (sym (put-append k n w (map f (upTo p)) (f (suc p) ∷ [])))

@@ -1,25 +1,16 @@
 -- The output of a step while it is written.
-use Prim.Native.Nat.{ℕ, _+_, _*_}
-use mathlib.Core.List.{List, _++_}
-use lib.ListN.{length, take, drop}
-use Rattle.limits.specs.Limits.{recordSize}
-use Rattle.record.specs.declared.message.Message.{Message}
+use Prim.Native.Nat.{ℕ}
+use mathlib.Core.List.{List}
 use Rattle.rules.specs.Batch.{Effect}
-use Rattle.rules.specs.Replica.{State, Stepped, writeAll}
+use Rattle.rules.specs.Replica.{State, Stepped, written, putAll}
 use Rattle.batch.specs.State.{stateOf}
 use Rattle.replica.specs.declared.handle.Progress.{Progress}
 
--- messages written behind the first `count` records
-unfoldable pub writeAt : ℕ → ℕ → ℕ → List Message → List ℕ → List ℕ
-writeAt k n count messages output = take (recordSize * count) output ++ writeAll k n messages (drop (recordSize * count) output)
-
--- what an effect leaves where `count` messages were sent before
+-- what an effect leaves where `count` records stood before
 abbrev pub sends : ℕ → List ℕ → Effect State → Stepped
-sends count output e = record {
-  state = e .state;
-  count = count + length (e .sent);
-  output = writeAt (e .state .settings .k) (e .state .settings .groups) count (e .sent) output;
-}
+sends count output e =
+    let w = putAll (e .state .settings .k) (e .state .settings .groups) (written count output) (e .sent) in
+    record { state = e .state; count = w .count; output = w .output }
 
 -- what the code has left
 abbrev pub reached : Progress → List ℕ → Stepped

@@ -1,6 +1,5 @@
 // One batch: taken off, and handled as Figure 1 says.
 ghost use mathlib.Core.Path.{_≡_};
-ghost use Prim.Native.Nat.{_+_, _≤_};
 ghost use mathlib.Core.Bool.{not};
 ghost use Rattle.rules.specs.Lists.{keep};
 ghost use Rattle.rules.specs.Batch.{oneMore, perform, fail, mayChange};
@@ -19,7 +18,7 @@ use limits::VARIABLES;
 use record::Request;
 use record::Timestamp;
 
-// The replica, and how many messages the step has sent so far.
+// The replica, and how many records the step has written so far.
 pub struct Progress {
     pub replica: Replica,
     pub count: usize,
@@ -83,9 +82,7 @@ pub(crate) fn handle_batch(
     count: usize,
 ) -> Progress
     requires { ⌜ t ≡ groupTimestamp group (waiting (r .queue)) ⌝ }
-    requires { ⌜ count ≤ 1000000000 ⌝ }
-    ensures effect { λ p. ⌜ reached p (now (output .exit)) ≡ sends count (now (output .entry)) (handleBatch group (stateOf r)) ⌝ }
-    ensures most { λ p. ⌜ p .count ≤ count + 256 ⌝ }
+    ensures { λ p. ⌜ reached p (now (output .exit)) ≡ sends count (now (output .entry)) (handleBatch group (stateOf r)) ⌝ }
 {
     if all_reads(r.queue, group, t) {
         let sent = send_replies(r, group, t, output, count);

@@ -1,31 +1,35 @@
 // The messages of a step, each written through the part of the output that begins where the last
-// ended. `count` is how many were written before.
+// ended. `count` is how many records stand there.
 ghost use mathlib.Core.Path.{_≡_};
-ghost use Prim.Native.Nat.{_+_, _≤_};
-ghost use mathlib.Core.List.{[], _∷_, map};
-ghost use lib.ListN.{length, getD};
+ghost use mathlib.Core.List.{map};
+ghost use lib.ListN.{getD};
 ghost use Rattle.rules.specs.Batch.{Store, replyTo, haltTo, haltAll};
+ghost use Rattle.rules.specs.Replica.{written, put, putAll};
 ghost use Rattle.batch.specs.State.{waiting, stateOf};
 ghost use Rattle.batch.specs.Head.{requestsAt};
-ghost use Rattle.replica.specs.Output.{writeAt};
 use batch::Replica;
 use batch::in_batch;
 use batch::pending_count;
 use limits::MAX_K;
 use limits::RECORD;
+use question::Outcome;
 use record::HALT;
 use record::Message;
 use record::REPLY;
 use record::Request;
 use record::Timestamp;
 
-// Writes a message behind the first `count`, where there is room.
-fn put(k: u8, n: u8, m: Message, output: &mut [u8], count: usize)
-    ensures { λ _. ⌜ now (output .exit) ≡ writeAt k n count (m ∷ []) (now (output .entry)) ⌝ }
+// Writes a message behind the records, and counts it if it was written.
+fn put(k: u8, n: u8, m: Message, output: &mut [u8], count: usize) -> usize
+    ensures { λ c. ⌜ written c (now (output .exit)) ≡ put k n (written count (now (output .entry))) m ⌝ }
 {
-    if count < output.len() / RECORD {
-        let at = count * RECORD;
-        record::write_message(k, n, m, &mut output[at..]);
+    if output.len() / RECORD <= count {
+        return count;
+    }
+    let at = count * RECORD;
+    match record::write_message(k, n, m, &mut output[at..]) {
+        Outcome::Done => count + 1,
+        Outcome::Refused(_) => count,
     }
 }
 
@@ -77,10 +81,7 @@ pub(crate) fn send_replies(
     output: &mut [u8],
     count: usize,
 ) -> usize
-    requires { ⌜ count ≤ 1000000000 ⌝ }
-    ensures count { λ c. ⌜ c ≡ count + length (requestsAt group t (waiting (r .queue))) ⌝ }
-    ensures most { λ c. ⌜ c ≤ count + 64 ⌝ }
-    ensures output { λ c. ⌜ now (output .exit) ≡ writeAt (r .settings .k) (r .settings .groups) count (map (replyTo (stateOf r .store) (r .number)) (requestsAt group t (waiting (r .queue)))) (now (output .entry)) ⌝ }
+    ensures { λ c. ⌜ written c (now (output .exit)) ≡ putAll (r .settings .k) (r .settings .groups) (written count (now (output .entry))) (map (replyTo (stateOf r .store) (r .number)) (requestsAt group t (waiting (r .queue)))) ⌝ }
 {
     let q = r.queue;
     let n = pending_count(q);
@@ -90,14 +91,13 @@ pub(crate) fn send_replies(
         let p = q.pending[i];
         if in_batch(group, t, p) {
             let request = p.request;
-            put(
+            next = put(
                 r.settings.k,
                 r.settings.groups,
                 reply_to(&r.variables, r.number, request),
                 output,
                 next,
             );
-            next += 1;
         }
         i += 1;
     }
@@ -113,28 +113,24 @@ pub(crate) fn send_halts(
     output: &mut [u8],
     count: usize,
 ) -> usize
-    requires { ⌜ count ≤ 1000000000 ⌝ }
-    ensures count { λ c. ⌜ c ≡ count + length (haltAll (r .settings .k) group (r .number) t) ⌝ }
-    ensures most { λ c. ⌜ c ≤ count + 256 ⌝ }
-    ensures output { λ c. ⌜ now (output .exit) ≡ writeAt (r .settings .k) (r .settings .groups) count (haltAll (r .settings .k) group (r .number) t) (now (output .entry)) ⌝ }
+    ensures { λ c. ⌜ written c (now (output .exit)) ≡ putAll (r .settings .k) (r .settings .groups) (written count (now (output .entry))) (haltAll (r .settings .k) group (r .number) t) ⌝ }
 {
     let k = r.settings.k;
     if MAX_K < k {
-        return count + k as usize + 1;
+        return count;
     }
     let last = k + 1;
     let mut next = count;
     let mut process: u8 = 0;
     while process < last {
         process += 1;
-        put(
+        next = put(
             k,
             r.settings.groups,
             halt_to(group, r.number, t, process),
             output,
             next,
         );
-        next += 1;
     }
     next
 }

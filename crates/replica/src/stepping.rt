@@ -17,7 +17,7 @@ use question::Outcome;
 use record::LocalTime;
 
 pub enum StepAnswer {
-    // How many messages stand at the start of the output.
+    // How many records stand at the start of the output.
     Sent(usize),
     Refused(u8),
 }

@@ -5,7 +5,7 @@ use mathlib.Core.List.{List, [], _∷_, _++_, map}
 use lib.Dec.{eqb, leb, ltb}
 use lib.ListN.{length, take, drop}
 use Rattle.limits.specs.Limits.{maxDelta, maxTime, places, recordSize, outputSize}
-use Rattle.question.specs.Question.{Question, _else_, Answer, given, ask, bind, mapAnswer, after, within, unitQuestions}
+use Rattle.question.specs.Question.{Question, _else_, Answer, given, refused, ask, bind, mapAnswer, within, unitQuestions}
 use Rattle.record.specs.Record.{readRequest, writeMessage}
 use Rattle.record.specs.declared.clock.Timestamp.{Timestamp}
 use Rattle.record.specs.declared.clock.LocalTime.{LocalTime}
@@ -157,13 +157,29 @@ unfoldable pub visits : ℕ → LocalTime → State → Effect State
 visits zero now s = still s
 visits (suc n) now s = follow (visits n now s) (λ t. visit (suc n) now (length (t .pending)) t)
 
--- the messages written one after the other, each through the part of the output that begins where the last ended
-unfoldable pub writeAll : ℕ → ℕ → List Message → List ℕ → List ℕ
-writeAll k n [] output = output
-writeAll k n (m ∷ messages) output =
-    take recordSize (after output (writeMessage k n m output)) ++ writeAll k n messages (drop recordSize output)
+-- an output at whose start records stand: how many, and its bytes
+pub record Written : Type 0 where
+  pub count : ℕ
+  pub output : List ℕ
 
--- what an accepted step leaves: the state, how many messages it sent, and the output
+abbrev pub written : ℕ → List ℕ → Written
+written count output = record { count = count; output = output }
+
+-- what is written through the part of the output that begins where the last record ended; a refusal leaves all as it was
+abbrev pub behind : Written → Answer (List ℕ) → Written
+behind w (given rest) = record { count = w .count + 1; output = take (recordSize * w .count) (w .output) ++ rest }
+behind w (refused number) = w
+
+-- one more message
+unfoldable pub put : ℕ → ℕ → Written → Message → Written
+put k n w m = behind w (writeMessage k n m (drop (recordSize * w .count) (w .output)))
+
+-- the messages one after the other. Those of a replica that was made are all written: the law `written-records`
+unfoldable pub putAll : ℕ → ℕ → Written → List Message → Written
+putAll k n w [] = w
+putAll k n w (m ∷ messages) = putAll k n (put k n w m) messages
+
+-- what an accepted step leaves: the state, and how many records stand at the start of the output
 pub record Stepped : Type 0 where
   pub state : State
   pub count : ℕ
@@ -172,11 +188,8 @@ pub record Stepped : Type 0 where
 unfoldable pub stepped : State → LocalTime → List ℕ → Stepped
 stepped s now output =
     let done = visits (s .settings .groups) now (atTime now s) in
-    record {
-      state = done .state;
-      count = length (done .sent);
-      output = writeAll (s .settings .k) (s .settings .groups) (done .sent) output;
-    }
+    let w = putAll (s .settings .k) (s .settings .groups) (written 0 output) (done .sent) in
+    record { state = done .state; count = w .count; output = w .output }
 
 abbrev pub stepQuestions : LocalTime → LocalTime → ℕ → List Question
 stepQuestions last now room = timeQuestions last now ++ ((leb outputSize room else 15) ∷ [])

@@ -1,15 +1,11 @@
 -- Each way through the code is one of the four things that may come of a batch.
-use Prim.Native.Nat.{ℕ, _+_}
 use mathlib.Core.Path.{refl, sym, ap, _∙_}
-use native.Mathlib.Omega.{arith}
-use lib.ListN.{length-map}
 use borrow.Author.Tests.{not-true, not-false}
 use borrow.Author.Needs.{needs}
-use Rattle.rules.specs.Batch.{perform, fail, replyTo}
+use Rattle.rules.specs.Batch.{perform, fail}
 use Rattle.rules.specs.Replica.{State}
-use Rattle.batch.specs.State.{waiting, stateOf}
+use Rattle.batch.specs.State.{stateOf}
 use Rattle.rules.specs.Replica.{withStore}
-use Rattle.batch.specs.Head.{requestsAt}
 use Rattle.replica.proofs.Handled.{handled-reads, handled-still, handled-write, handled-fails}
 use Rattle.replica.proofs.Sends.{stepped-is, sends-as, sends-still}
 use Rattle.replica.proofs.handle.handle_batch.Statement.{statement}
@@ -35,12 +31,8 @@ returns c =
     let a = start .args in
     let s = stateOf (a .r) in
     let yes = sym (reads .all-reads .ensures) ∙ sent .before .before .if1 .taken in
-    let same = sym (length-map (requestsAt (a .group) (a .t) (waiting (a .r .queue))) (replyTo (s .store) (s .number))) in
-    let amount = sent .send-replies .ensures .0 ∙ ap (λ (n : ℕ). a .count + n) same in (
-      sends-as (a .count) (a .output .now) (handled-reads (a .group) (a .t) s (start .pre .0) yes)
-          (stepped-is (c .without .ensures) amount (sent .send-replies .ensures .1 .1)),
-      omega (arith, sent .send-replies .ensures .1 .0),
-    )
+    sends-as (a .count) (a .output .now) (handled-reads (a .group) (a .t) s (start .pre) yes)
+    (stepped-is (c .without .ensures) (sent .send-replies .ensures))
 
 without-requires-2 : tie.Need-without-requires-2
 without-requires-2 c κs = search needs
@@ -56,11 +48,9 @@ returns-2 c =
     let start = reads .before .before in
     let a = start .args in
     let no = sym (reads .all-reads .ensures) ∙ rest .before .if1 .left in
-    let may-not = sym (change .may-change .ensures) ∙ not-true _ (c .if2 .taken) in (
-      sends-as (a .count) (a .output .now) (handled-still (a .group) (a .t) (stateOf (a .r)) (start .pre .0) no may-not)
-          (stepped-is (rest .without2 .ensures) refl refl ∙ sym (sends-still (a .count) (a .output .now) _)),
-      omega arith,
-    )
+    let may-not = sym (change .may-change .ensures) ∙ not-true _ (c .if2 .taken) in
+    sends-as (a .count) (a .output .now) (handled-still (a .group) (a .t) (stateOf (a .r)) (start .pre) no may-not)
+    (stepped-is (rest .without2 .ensures) refl ∙ sym (sends-still (a .count) (a .output .now) _))
 
 is-unanimous-requires : tie.Need-is-unanimous-requires
 is-unanimous-requires c κs = search needs
@@ -85,11 +75,9 @@ returns-3 c =
     let all = sym (unanimous .is-unanimous .ensures) ∙ first .before .if3 .taken in
     let state =
     c .performed .ensures
-    ∙ ap (λ (x : State). withStore (perform (first .first-of .result) (x .store)) x) (rest .without2 .ensures) in (
-      sends-as (a .count) (a .output .now) (handled-write (a .group) (a .t) (stateOf (a .r)) (start .pre .0) no may all)
-          (stepped-is (rw (first .first-of .ensures) at state) refl refl ∙ sym (sends-still (a .count) (a .output .now) _)),
-      omega arith,
-    )
+    ∙ ap (λ (x : State). withStore (perform (first .first-of .result) (x .store)) x) (rest .without2 .ensures) in
+    sends-as (a .count) (a .output .now) (handled-write (a .group) (a .t) (stateOf (a .r)) (start .pre) no may all)
+    (stepped-is (rw (first .first-of .ensures) at state) refl ∙ sym (sends-still (a .count) (a .output .now) _))
 
 send-halts-requires : tie.Need-send-halts-requires
 send-halts-requires c κs = search needs
@@ -112,11 +100,9 @@ returns-4 c =
     let no = sym (reads .all-reads .ensures) ∙ rest .before .if1 .left in
     let may = sym (change .may-change .ensures) ∙ not-false _ (unanimous .before .if2 .left) in
     let not-all = sym (unanimous .is-unanimous .ensures) ∙ sent .before .before .if3 .left in
-    let state = c .failing .ensures ∙ ap (λ (x : State). withStore (fail (x .store)) x) (rest .without2 .ensures) in (
-      sends-as (a .count) (a .output .now) (handled-fails (a .group) (a .t) (stateOf (a .r)) (start .pre .0) no may not-all)
-          (stepped-is state (sent .send-halts .ensures .0) (sent .send-halts .ensures .1 .1)),
-      omega (arith, sent .send-halts .ensures .1 .0),
-    )
+    let state = c .failing .ensures ∙ ap (λ (x : State). withStore (fail (x .store)) x) (rest .without2 .ensures) in
+    sends-as (a .count) (a .output .now) (handled-fails (a .group) (a .t) (stateOf (a .r)) (start .pre) no may not-all)
+    (stepped-is state (sent .send-halts .ensures))
 
 pub handle-batch-spec : {M : Type 1} → statement M
 handle-batch-spec =

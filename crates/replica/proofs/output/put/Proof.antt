@@ -1,10 +1,18 @@
--- The part of the output that is lent begins where the last message ended.
-use mathlib.Core.Path.{sym}
+-- The part of the output that is lent begins where the last record ended.
+use Prim.Native.Nat.{_*_, _≤_}
+use mathlib.Core.Path.{sym, ap, _∙_}
 use native.Mathlib.Omega.{arith}
+use lib.ListN.{length}
 use borrow.Author.Needs.{needs}
-use Rattle.replica.proofs.Written.{write-part, write-full}
+use Rattle.question.specs.Question.{outcome}
+use Rattle.replica.proofs.Written.{put-done, put-refused, put-full}
 use Rattle.replica.proofs.output.put.Statement.{statement}
 use Rattle.replica.proofs.output.put.Tie as tie
+
+returns : tie.Need-returns
+returns c =
+    let a = c .before .before .args in
+    put-full (a .k) (a .n) (a .m) (a .count) (a .output .now) (omega arith)
 
 mul-at : tie.Need-mul-at
 mul-at c = search needs
@@ -21,28 +29,53 @@ part-write-message-end c = search needs
 write-message-requires : tie.Need-write-message-requires
 write-message-requires c κs = search needs
 
+enum-told : tie.Need-enum-told
+enum-told c = search needs
+
+add-result : tie.Need-add-result
+add-result c = search needs
+
+enum-told-2 : tie.Need-enum-told-2
+enum-told-2 c = search needs
+
 same-length : tie.Need-same-length
 same-length c = search needs
 
-returns : tie.Need-returns
-returns c =
-    let a = c .before .before .before .before .before .before .args in
-    rw (c .before .before .write-message .ensures .1) (write-part (a .k) (a .n) (a .count) (a .m) (a .output .now) (omega arith))
+-- there was room
+room : (c : tie.Else1) → c .before .before .args .count * 24 ≤ length (c .before .before .args .output .now)
+room c = omega arith
 
 returns-2 : tie.Need-returns-2
 returns-2 c =
-    let a = c .before .before .args in
-    sym (write-full (a .k) (a .n) (a .count) (a .m) (a .output .now) (omega arith))
+    let called = c .before .before .before .before in
+    let a = called .before .before .before .before .args in
+    let told = sym (called .write-message .ensures .0) ∙ ap outcome (c .enum-told .given .1) in
+    rw (called .write-message .ensures .1) (put-done (a .k) (a .n) (a .m) (a .count) (a .output .now) (room (called .before .before)) told)
+
+same-length-2 : tie.Need-same-length-2
+same-length-2 c = search needs
+
+returns-3 : tie.Need-returns-3
+returns-3 c =
+    let called = c .before .before .before .before in
+    let a = called .before .before .before .before .args in
+    let told = sym (called .write-message .ensures .0) ∙ ap outcome (c .enum-told2 .given .1) in
+    rw (called .write-message .ensures .1) (put-refused (a .k) (a .n) (a .m) (a .count) (a .output .now) (room (called .before .before)) told)
 
 pub put-spec : {M : Type 1} → statement M
 put-spec =
     tie.close
     (tie.spec
+    returns
     mul-at
     sub-write-message
     part-write-message-start
     part-write-message-end
     write-message-requires
+    enum-told
+    add-result
+    enum-told-2
     same-length
-    returns
-    returns-2)
+    returns-2
+    same-length-2
+    returns-3)

@@ -1,31 +1,26 @@
 -- The replies sent so far, and those to what is left of the batch behind them, are the replies to all of it.
-use Prim.Native.Nat.{_+_, _≤_, _-_}
+use Prim.Native.Nat.{_≤_, _-_}
 use mathlib.Core.Path.{_≡_, refl, sym, ap, _∙_}
 use mathlib.Core.Logic.{⊎-elim}
 use mathlib.Core.Bool.{true, false}
-use mathlib.Core.List.{[], _∷_, map}
-use native.Mathlib.Nat.{add-zero}
+use mathlib.Core.List.{map}
 use native.Mathlib.Omega.{arith}
 use lib.ListN.{length, getD, drop}
 use borrow.Author.Needs.{needs}
 use Rattle.rules.specs.Batch.{replyTo}
 use Rattle.batch.specs.State.{waiting, stateOf, free}
 use Rattle.batch.specs.Head.{requestsAt}
-use Rattle.rules.specs.Replica.{inBatch}
-use Rattle.replica.specs.Output.{writeAt}
+use Rattle.rules.specs.Replica.{inBatch, written, put, putAll}
 use Rattle.batch.proofs.Left.{left-next, left-none}
-use Rattle.replica.proofs.Written.{write-none, write-next}
 use Rattle.replica.proofs.output.send_replies.Statement.{statement}
 use Rattle.replica.proofs.output.send_replies.Tie as tie
 
 abbrev Inv-loop : tie.InvT-loop
 Inv-loop group t output₀ count r q n next₀ i₀ output next i =
     (i ≤ n)
-    × (next ≤ count + i)
     × (length output ≡ length output₀)
-    × (next + length (requestsAt group t (drop i (waiting q))) ≡ count + length (requestsAt group t (waiting q)))
-    × (writeAt (r .settings .k) (r .settings .groups) next (map (replyTo (stateOf r .store) (r .number)) (requestsAt group t (drop i (waiting q)))) output
-    ≡ writeAt (r .settings .k) (r .settings .groups) count (map (replyTo (stateOf r .store) (r .number)) (requestsAt group t (waiting q))) output₀)
+    × (putAll (r .settings .k) (r .settings .groups) (written next output) (map (replyTo (stateOf r .store) (r .number)) (requestsAt group t (drop i (waiting q))))
+    ≡ putAll (r .settings .k) (r .settings .groups) (written count output₀) (map (replyTo (stateOf r .store) (r .number)) (requestsAt group t (waiting q))))
 
 abbrev μ-loop : tie.MeasureT-loop
 μ-loop group t output₀ count r q n next₀ i₀ output next i = n - i
@@ -34,7 +29,7 @@ pending-count-requires : tie.Need-pending-count-requires Inv-loop μ-loop
 pending-count-requires c κs = search needs
 
 loop-holds : tie.Need-loop-holds Inv-loop μ-loop
-loop-holds c = (omega arith, omega arith, refl, refl, refl)
+loop-holds c = (omega arith, refl, refl)
 
 mul-p : tie.Need-mul-p Inv-loop μ-loop
 mul-p c = search needs
@@ -51,9 +46,6 @@ reply-to-requires c κs = search needs
 put-requires : tie.Need-put-requires Inv-loop μ-loop
 put-requires c κs = search needs
 
-add-next : tie.Need-add-next Inv-loop μ-loop
-add-next c = search needs
-
 add-i : tie.Need-add-i Inv-loop μ-loop
 add-i c = search needs
 
@@ -61,6 +53,7 @@ loop-less : tie.Need-loop-less Inv-loop μ-loop
 loop-less c = search needs
 
 loop-again : tie.Need-loop-again Inv-loop μ-loop
+unfolding putAll
 loop-again c =
     let l = c .before .before .before .before in
     let a = l .before .before .before .before .args in
@@ -71,40 +64,34 @@ loop-again c =
     let p = getD (q .pending) i free in
     let next = left-next (q .count) (q .pending) i free (omega (arith, l .before .pending-count .ensures .0)) in
     let mine = c .before .in-batch .ensures in
-    let reply = replyTo (stateOf r .store) (r .number) in
     ⊎-elim
     (λ w.
     let here : inBatch (a .group) (a .t) p ≡ true = sym mine ∙ w .0 .taken in
     let message = w .5 .ensures (stateOf r .store) refl in
-    let written : c .if1 .output ≡ writeAt (r .settings .k) (r .settings .groups) (l .loop .next) (w .5 .result ∷ []) (l .loop .output) = rw (w .10) (w .7 .ensures) in (
+    let one : written (c .if1 .next) (c .if1 .output) ≡ put (r .settings .k) (r .settings .groups) (written (l .loop .next) (l .loop .output)) (w .5 .result) =
+    rw (w .10, w .11) (w .7 .ensures) in (
       omega arith,
-      omega (arith, w .11),
-      ap length (w .10) ∙ (w .7 .kept .1 .1 .1 .0 ∙ inv .2),
-      omega (arith, w .11, rw (next, here) at (inv .3)),
-      rw (written, w .11, message)
-          (sym (write-next (r .settings .k) (r .settings .groups) (l .loop .next) (reply (p .request)) _ (l .loop .output)) ∙ (rw (next, here) at (inv .4))),
+      ap length (w .10) ∙ (w .7 .kept .1 .1 .1 .0 ∙ inv .1),
+      rw (one, message) (rw (next, here) at (inv .2)),
     ))
     (λ w.
     let there : inBatch (a .group) (a .t) p ≡ false = sym mine ∙ w .0 .left in (
       omega arith,
-      omega (arith, w .2),
-      ap length (w .1) ∙ inv .2,
-      omega (arith, w .2, rw (next, there) at (inv .3)),
-      rw (w .1, w .2) (rw (next, there) at (inv .4)),
+      ap length (w .1) ∙ inv .1,
+      rw (w .1, w .2) (rw (next, there) at (inv .2)),
     ))
     (c .if1 .came)
 
 same-length : tie.Need-same-length Inv-loop μ-loop
-same-length c = c .before .loop .inv .2
+same-length c = c .before .loop .inv .1
 
 returns : tie.Need-returns Inv-loop μ-loop
+unfolding putAll
 returns c =
     let l = c .before in
     let r = l .before .before .before .before .args .t1 in
-    let none = left-none (r .queue .count) (r .queue .pending) (l .loop .i) (omega (arith, l .before .pending-count .ensures .0)) in (
-      sym (add-zero (l .loop .next)) ∙ (rw none at (l .loop .inv .3)),
-      (omega arith, sym (write-none (r .settings .k) (r .settings .groups) (l .loop .next) (l .loop .output)) ∙ (rw none at (l .loop .inv .4))),
-    )
+    let none = left-none (r .queue .count) (r .queue .pending) (l .loop .i) (omega (arith, l .before .pending-count .ensures .0)) in
+    rw none at (l .loop .inv .2)
 
 pub send-replies-spec : {M : Type 1} → statement M
 send-replies-spec =
@@ -119,7 +106,6 @@ send-replies-spec =
     in-batch-requires
     reply-to-requires
     put-requires
-    add-next
     add-i
     loop-less
     loop-again

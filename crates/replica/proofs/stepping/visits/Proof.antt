@@ -1,9 +1,9 @@
 -- What was sent so far, and what is left of the group's visit sends behind it, is what the visits up to that group send.
-use Prim.Native.Nat.{_+_, _*_, _-_, _≤_, _<_}
+use Prim.Native.Nat.{_+_, _-_, _≤_, _<_}
 use mathlib.Core.Path.{_≡_, refl, sym, ap, _∙_}
 use mathlib.Core.Bool.{true}
 use native.Mathlib.Omega.{arith}
-use lib.ListN.{length, length-map, length-take}
+use lib.ListN.{length}
 use borrow.Author.Needs.{needs}
 use Rattle.rules.specs.Replica.{Stepped, groupTimestamp, batchOf, isStable, visits}
 use Rattle.batch.specs.State.{waiting, stateOf}
@@ -14,24 +14,15 @@ use Rattle.replica.proofs.Visited.{whole, batch-fewer, visit-over, visi
 use Rattle.replica.proofs.stepping.visits.Statement.{statement}
 use Rattle.replica.proofs.stepping.visits.Tie as tie
 
--- a batch sends 256 messages or fewer, and takes a request off or more
 abbrev Inv-loop : tie.InvT-loop
 Inv-loop at output₀ n replica₀ count₀ group₀ output replica count group =
     (group ≤ n)
-    × (count + 256 * length (waiting (replica .queue)) ≤ 16384)
     × (length output ≡ length output₀)
     × (n ≤ group → reached (record { replica = replica; count = count }) output ≡ sends 0 output₀ (visits group at (stateOf replica₀)))
     × (sends count output (whole (group + 1) at (stateOf replica)) ≡ sends 0 output₀ (visits (group + 1) at (stateOf replica₀)))
 
 abbrev μ-loop : tie.MeasureT-loop
 μ-loop at output₀ n replica₀ count₀ group₀ output replica count group = n - group + length (waiting (replica .queue))
-
--- no more than 64 requests are pending
-enough : (c : tie.Start Inv-loop μ-loop) → length (waiting (c .args .r .queue)) ≤ 64
-enough c =
-    let l = c .args .r .queue .pending in
-    let long : length l ≡ 64 = sym (length-map l _) ∙ c .good .0 .1 .1 .1 .1 .1 .1 .0 .1 .1 .0 .1 .0 .1 in
-    rw length-take (omega arith)
 
 -- a head that is found is the group's, and its batch is stable
 late : (c : tie.After-t Inv-loop μ-loop) →
@@ -49,7 +40,7 @@ loop-holds : tie.Need-loop-holds Inv-loop μ-loop
 unfolding visits
 loop-holds c =
     let a = c .before .args in
-    (omega arith, omega (arith, enough (c .before)), refl, λ h. sym (sends-still 0 (a .output .now) (stateOf (a .r))), refl)
+    (omega arith, refl, λ h. sym (sends-still 0 (a .output .now) (stateOf (a .r))), refl)
 
 add-stable-head : tie.Need-add-stable-head Inv-loop μ-loop
 add-stable-head c = search needs
@@ -75,10 +66,9 @@ loop-again c =
     let count = l .loop .count in
     let output = l .loop .output in
     let no = late-no (s .settings .delta) (a .at) group (s .pending) (sym (c .before .before .stable-head .ensures) ∙ c .enum-told .given .1) in
-    let over = sends-as count output (visit-over group (a .at) (length (s .pending)) s no) (sym (sends-still count output s)) ∙ l .loop .inv .4 in (
+    let over = sends-as count output (visit-over group (a .at) (length (s .pending)) s no) (sym (sends-still count output s)) ∙ l .loop .inv .3 in (
       omega arith,
       l .loop .inv .1,
-      l .loop .inv .2,
       λ h. over,
       ap (λ (d : Stepped). sends (d .count) (d .output) (whole (group + 1) (a .at) (d .state))) over
           ∙ visits-sends group (a .at) 0 (a .output .now) (stateOf (a .r)),
@@ -91,7 +81,7 @@ add-handle-batch : tie.Need-add-handle-batch Inv-loop μ-loop
 add-handle-batch c = search needs
 
 handle-batch-requires : tie.Need-handle-batch-requires Inv-loop μ-loop
-handle-batch-requires c κs = (late (c .before .before) .0, omega arith)
+handle-batch-requires c κs = late (c .before .before) .0
 
 -- a request or more is taken off
 fewer : (c : tie.After-handle-batch Inv-loop μ-loop) →
@@ -100,7 +90,7 @@ fewer c =
     let found = c .before .before .before in
     let l = found .before .before .before .before in
     let s = stateOf (l .loop .replica) in
-    rw (ap (λ (d : Stepped). length (d .state .pending)) (c .handle-batch .ensures .0))
+    rw (ap (λ (d : Stepped). length (d .state .pending)) (c .handle-batch .ensures))
     (batch-fewer (l .loop .group + 1) (l .before .before .args .at) s (late found .1))
 
 loop-less-2 : tie.Need-loop-less-2 Inv-loop μ-loop
@@ -115,20 +105,19 @@ loop-again-2 c =
     let group = l .loop .group + 1 in
     let look = visit-sends group (a .at) (l .loop .count) (l .loop .output) (stateOf (l .loop .replica)) (late found .1) in (
       omega arith,
-      omega (arith, done .handle-batch .ensures .1, fewer done),
-      done .handle-batch .kept .1 .1 .1 .0 ∙ l .loop .inv .2,
+      done .handle-batch .kept .1 .1 .1 .0 ∙ l .loop .inv .1,
       λ h. absurd (omega (arith, found .before .before .before .loop-test .taken)),
-      ap (λ (d : Stepped). sends (d .count) (d .output) (whole group (a .at) (d .state))) (done .handle-batch .ensures .0)
-          ∙ (sym look ∙ l .loop .inv .4),
+      ap (λ (d : Stepped). sends (d .count) (d .output) (whole group (a .at) (d .state))) (done .handle-batch .ensures)
+          ∙ (sym look ∙ l .loop .inv .3),
     )
 
 same-length : tie.Need-same-length Inv-loop μ-loop
-same-length c = c .before .loop .inv .2
+same-length c = c .before .loop .inv .1
 
 returns : tie.Need-returns Inv-loop μ-loop
 returns c =
     let e : c .before .loop .group ≡ c .before .before .before .args .r .settings .groups = omega arith in
-    rw e at (c .before .loop .inv .3 (omega arith))
+    rw e at (c .before .loop .inv .2 (omega arith))
 
 pub visits-spec : {M : Type 1} → statement M
 visits-spec =
