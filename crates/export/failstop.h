@@ -74,11 +74,12 @@ typedef struct {
     size_t count;
 } failstop_list;
 
-/* Beside a refusal stand zeros, or the replica as it came; a refused making has that of the least unit. */
+/* Beside a refusal stand zeros, or the replica as it came. A refused making has a blank replica, all zeros:
+   it refuses every delivery, and a step of it does nothing. */
 typedef struct { uint8_t refusal; failstop_request request; } failstop_request_result;
 typedef struct { uint8_t refusal; failstop_message message; } failstop_message_result;
 typedef struct { uint8_t refusal; failstop_replica replica; } failstop_replica_result;
-/* `count` messages stand at the start of the output. */
+/* `count` records stand at the start of the output, whatever the replica. */
 typedef struct { uint8_t refusal; size_t count; failstop_replica replica; } failstop_step_result;
 typedef struct { uint8_t refusal; uint64_t value; } failstop_value_result;
 

@@ -2,9 +2,9 @@
 use Prim.Native.Nat.{ℕ}
 use lib.ListN.{replicate}
 use Rattle.limits.specs.Limits.{variableCount, places}
-use Rattle.rules.specs.Replica.{State, newState}
+use Rattle.rules.specs.Replica.{State}
 use Rattle.rules.specs.declared.Settings.{Settings}
-use Rattle.batch.specs.State.{free}
+use Rattle.batch.specs.State.{free, stateOf}
 use Rattle.batch.specs.declared.state.Replica.{Replica}
 
 abbrev pub newReplica : Settings → ℕ → Replica
@@ -17,6 +17,10 @@ newReplica u number = record {
   writes = 0;
 }
 
--- the state beside a refusal: that of the only replica of a unit with k = 0, N = 1, owner 1, δ = 0
-abbrev pub leastState : State
-leastState = newState (record { k = 0; groups = 1; owner = 1; delta = 0 }) 1
+-- what stands beside the number of a refused making: zeros. It is no unit's replica, so it refuses every delivery and a step of it
+-- does nothing: `blank-refuses` and `blank-stands` (proofs/Blank.antt)
+abbrev pub blankReplica : Replica
+blankReplica = newReplica (record { k = 0; groups = 0; owner = 0; delta = 0 }) 0
+
+abbrev pub blankState : State
+blankState = stateOf blankReplica

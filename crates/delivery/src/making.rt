@@ -1,9 +1,10 @@
 // Making a replica.
 ghost use mathlib.Core.Path.{_≡_};
-ghost use Rattle.question.specs.Question.{given, worked, ask, after, verdict, outcome};
+ghost use Prim.Native.Nat.{ℕ};
+ghost use Rattle.question.specs.Question.{given, refused, worked, ask, after, verdict, outcome};
 ghost use Rattle.rules.specs.Replica.{makeQuestions, make};
 ghost use Rattle.batch.specs.State.{stateOf};
-ghost use Rattle.delivery.specs.Made.{newReplica, leastState};
+ghost use Rattle.delivery.specs.Made.{newReplica, blankReplica, blankState};
 use batch::Queue;
 use batch::Replica;
 use checks::check_settings;
@@ -16,7 +17,7 @@ use record::Request;
 use rules::Pending;
 use rules::Settings;
 
-// A refused making still has a replica beside its number: that of the least unit there is.
+// A refused making has a blank replica beside its number, all zeros.
 pub struct Made {
     pub outcome: Outcome,
     pub replica: Replica,
@@ -53,7 +54,8 @@ fn new_replica(u: Settings, number: u8) -> Replica
 
 pub fn make(u: Settings, number: u8) -> Made
     ensures answer { λ m. ⌜ outcome (m .outcome) ≡ verdict (make u number) ⌝ }
-    ensures state { λ m. ⌜ stateOf (m .replica) ≡ after leastState (make u number) ⌝ }
+    ensures state { λ m. ⌜ stateOf (m .replica) ≡ after blankState (make u number) ⌝ }
+    ensures blank { λ m. ⌜ ((q : ℕ) → outcome (m .outcome) ≡ refused q → m .replica ≡ blankReplica) ⌝ }
 {
     let o = check_make(u, number);
     match o {
@@ -62,15 +64,15 @@ pub fn make(u: Settings, number: u8) -> Made
             replica: new_replica(u, number),
         },
         Outcome::Refused(_) => {
-            let least = Settings {
+            let none = Settings {
                 k: 0,
-                groups: 1,
-                owner: 1,
+                groups: 0,
+                owner: 0,
                 delta: 0,
             };
             Made {
                 outcome: o,
-                replica: new_replica(least, 1),
+                replica: new_replica(none, 0),
             }
         }
     }

@@ -4,7 +4,7 @@ ghost use Prim.Native.Nat.{ℕ};
 ghost use Rattle.question.specs.Question.{refused, mapAnswer, after, verdict};
 ghost use Rattle.rules.specs.Replica.{make, deliver, step};
 ghost use Rattle.batch.specs.State.{stateOf};
-ghost use Rattle.delivery.specs.Made.{leastState};
+ghost use Rattle.delivery.specs.Made.{blankReplica, blankState};
 ghost use Rattle.replica.specs.Answer.{stepAnswer};
 ghost use Rattle.export.specs.Result.{refusalOf};
 use crate::records::refusal_of;
@@ -22,7 +22,7 @@ pub struct ReplicaResult {
 #[repr(C)]
 pub struct StepResult {
     pub refusal: u8,
-    // How many messages stand at the start of the output.
+    // How many records stand at the start of the output.
     pub count: usize,
     pub replica: Replica,
 }
@@ -48,7 +48,8 @@ fn sent(a: StepAnswer) -> usize
 #[no_mangle]
 pub extern "C" fn failstop_make(u: Settings, number: u8) -> ReplicaResult
     ensures answer { λ m. ⌜ m .refusal ≡ refusalOf (verdict (make u number)) ⌝ }
-    ensures state { λ m. ⌜ stateOf (m .replica) ≡ after leastState (make u number) ⌝ }
+    ensures state { λ m. ⌜ stateOf (m .replica) ≡ after blankState (make u number) ⌝ }
+    ensures blank { λ m. ⌜ ((q : ℕ) → make u number ≡ refused q → m .replica ≡ blankReplica) ⌝ }
 {
     let made = replica::make(u, number);
     let outcome = made.outcome;

@@ -1,5 +1,7 @@
 -- The questions are asked by themselves: on a yes, a new replica is given.
+use Prim.Native.Nat.{ℕ}
 use mathlib.Core.Path.{_≡_, refl}
+use native.Mathlib.Omega.{arith}
 use borrow.Author.Needs.{needs}
 use Rattle.question.specs.Question.{given, next, outcome}
 use Rattle.rules.specs.Replica.{makeQuestions, newState, make}
@@ -32,10 +34,10 @@ new-replica-requires-2 : tie.Need-new-replica-requires-2
 new-replica-requires-2 c κs = search needs
 
 returns : tie.Need-returns
-returns c = rw (← decided (c .before .before .before), c .before .enum-told .given .1, c .new-replica .ensures) (refl, refl)
+returns c = rw (← decided (c .before .before .before), c .before .enum-told .given .1, c .new-replica .ensures) (refl, (refl, λ q e. absurd (let z : _≡_ {A = ℕ} 0 1 = cc in omega arith)))
 
 returns-2 : tie.Need-returns-2
-returns-2 c = rw (← decided (c .before .before .before), c .before .enum-told2 .given .1, c .new-replica2 .ensures) (refl, refl)
+returns-2 c = rw (← decided (c .before .before .before), c .before .enum-told2 .given .1, c .new-replica2 .ensures) (refl, (refl, λ q e. refl))
 
 pub make-spec : {M : Type 1} → statement M
 make-spec =

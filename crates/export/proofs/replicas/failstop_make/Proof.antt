@@ -1,3 +1,5 @@
+use mathlib.Core.Path.{ap, _∙_}
+use Rattle.question.specs.Question.{verdict}
 use borrow.Author.Needs.{needs}
 use Rattle.export.proofs.replicas.failstop_make.Statement.{statement}
 use Rattle.export.proofs.replicas.failstop_make.Tie as tie
@@ -11,7 +13,7 @@ refusal-of-requires c κs = search needs
 returns : tie.Need-returns
 returns c =
     let made = c .before .before .make .ensures in
-    (rw (c .refusal-of .ensures, made .0), made .1)
+    (rw (c .refusal-of .ensures, made .0), (made .1 .0, λ q e. made .1 .1 q (made .0 ∙ ap verdict e)))
 
 pub failstop-make-spec : {M : Type 1} → statement M
 failstop-make-spec = tie.close (tie.spec make-requires refusal-of-requires returns)

@@ -1,0 +1,21 @@
+-- The replica beside a refused making: it accepts no request, and has nothing to do in a step.
+use Prim.Native.Nat.{ℕ}
+use mathlib.Core.Path.{_≡_, refl, _∙_, ap}
+use mathlib.Core.List.{List}
+use Rattle.question.specs.Question.{given, refused, ask, unitQuestions}
+use Rattle.record.specs.Record.{readFields}
+use Rattle.record.specs.declared.clock.LocalTime.{LocalTime}
+use Rattle.rules.specs.Replica.{admit, deliver, visits, putAll, Stepped, atTime, stepped, step}
+use Rattle.laws.proofs.Step.{step-accepted}
+use Rattle.delivery.specs.Made.{blankState}
+
+-- 2: it has no groups
+pub blank-refuses : (bytes : List ℕ) (now : LocalTime) → deliver blankState bytes now ≡ refused 2
+unfolding ask unitQuestions readFields admit deliver
+blank-refuses bytes now = refl
+
+-- it takes note of the time, and that is all
+pub blank-stands : (now : LocalTime) (output : List ℕ) {d : Stepped} → step blankState now output ≡ given d
+    → d ≡ record { state = atTime now blankState; count = 0; output = output }
+unfolding visits putAll stepped
+blank-stands now output e = step-accepted blankState now output e
