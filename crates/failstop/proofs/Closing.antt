@@ -2,7 +2,7 @@
 use Prim.Native.Nat.{ℕ, _+_, _<_}
 use mathlib.Core.Path.{_≡_, refl, _∙_, ap, subst}
 use mathlib.Core.Logic.{⊎-elim}
-use mathlib.Core.Bool.{Bool, true, false}
+use mathlib.Core.Bool.{true, false}
 use mathlib.Core.List.{List, [], _∷_, List·Memᴰ, List·Memᴰ·not-nil}
 use native.Mathlib.Omega.{arith}
 use lib.Dec.{ltb}
@@ -10,14 +10,14 @@ use lib.ListN.{length}
 use borrow.Author.Tests.{eqb-true, ltb-true, lt-ltb}
 use Rattle.question.specs.Question.{Answer, given, refused, isGiven}
 use Rattle.record.specs.declared.clock.LocalTime.{LocalTime}
-use Rattle.rules.specs.Lists.{every}
+use Rattle.rules.specs.Lists.{some}
 use Rattle.rules.specs.Batch.{Effect}
 use Rattle.rules.specs.declared.Settings.{Settings}
 use Rattle.rules.specs.Replica.{State, Stepped, ofGroup, batchOf, earliest, isStable, visits, atTime, step}
-use Rattle.rules.specs.Run.{Call, delivery, turn, call, run}
-use Rattle.failstop.specs.Suppose.{closesNow, closes}
+use Rattle.rules.specs.Run.{Call, delivery, turn, call, run, stepTimes}
+use Rattle.failstop.specs.Suppose.{closes}
 use Rattle.rules.specs.declared.Pending.{Pending}
-use Rattle.question.proofs.Tests.{case, true-not-false, both}
+use Rattle.question.proofs.Tests.{case, true-not-false}
 use Rattle.laws.proofs.Lists.{no-member, keep-in, every-in}
 use Rattle.laws.proofs.Least.{earliest-hit, batch-some}
 use Rattle.laws.proofs.Keeps.{visits-keep}
@@ -60,22 +60,16 @@ module _ (u : Settings) (me : ℕ) (ok : Made u me) where
           (visits-settle (u .groups) now s (u .owner) (ok .owner-low) (ok .owner-high))
 
   module _ (all : List Pending) where
-    closing-empty : (s : State) (c : Call) (calls : List Call) → Underway u me all s (c ∷ calls) → closesNow all s c ≡ true
-        → mine u (run (call s c .state) calls .state .pending) ≡ []
-    closing-empty s (delivery bytes now) calls w e = true-not-false false e refl
-    closing-empty s (turn now output) calls w e = go (step s now output) refl
+    closing-empty : (s : State) (now : LocalTime) (output : List ℕ) (calls : List Call) → Underway u me all s (turn now output ∷ calls)
+        → isGiven (step s now output) ≡ true → closes (u .delta) all now ≡ true
+        → mine u (run (call s (turn now output) .state) calls .state .pending) ≡ []
+    closing-empty s now output calls w given-one e = go (step s now output) refl
       where
-        past : Pending → Bool
-        past p = ltb (p .arrival .0 + s .settings .delta) (now .0)
-
-        parts : (isGiven (step s now output) ≡ true) × (every past all ≡ true)
-        parts = both (isGiven (step s now output)) (every past all) e
-
         old : (p : Pending) → List·Memᴰ p all → p .arrival .0 + u .delta < now .0
-        old p i = rw (w .going .sound .settings) at (ltb-true (p .arrival .0 + s .settings .delta) (now .0) (every-in past all (parts .1) p i))
+        old p i = ltb-true (p .arrival .0 + u .delta) (now .0) (every-in (λ p. ltb (p .arrival .0 + u .delta) (now .0)) all e p i)
 
         go : (a : Answer Stepped) → step s now output ≡ a → mine u (run (call s (turn now output) .state) calls .state .pending) ≡ []
-        go (refused number) f = true-not-false (isGiven (step s now output)) (parts .0) (ap isGiven f)
+        go (refused number) f = true-not-false (isGiven (step s now output)) given-one (ap isGiven f)
         go (given d) f =
             let c = turn now output in
             let next = underway-next u me ok all s c calls w in
@@ -88,9 +82,17 @@ module _ (u : Settings) (me : ℕ) (ok : Made u me) where
             (λ j. omega (arith, old p (next .coming p j), after-step u me ok all s c calls w now same p j))
             (run-pending u me ok calls (call s c .state) (next .going) p i))
 
-    pub run-empty : (calls : List Call) (s : State) → Underway u me all s calls → closes all s calls ≡ true → mine u (run s calls .state .pending) ≡ []
-    unfolding run closes
+    pub run-empty : (calls : List Call) (s : State) → Underway u me all s calls → some (closes (u .delta) all) (stepTimes s calls) ≡ true
+        → mine u (run s calls .state .pending) ≡ []
+    unfolding run stepTimes
     run-empty [] s w e = true-not-false false e refl
-    run-empty (c ∷ calls) s w e = case (closesNow all s c)
-        (λ a. closing-empty s c calls w a)
-        (λ a. run-empty calls (call s c .state) (underway-next u me ok all s c calls w) (rw a at e))
+    run-empty (delivery bytes now ∷ calls) s w e =
+        run-empty calls (call s (delivery bytes now) .state) (underway-next u me ok all s (delivery bytes now) calls w) e
+    run-empty (turn now output ∷ calls) s w e =
+        let c = turn now output in
+        let next = underway-next u me ok all s c calls w in
+        case (isGiven (step s now output))
+        (λ g. case (closes (u .delta) all now)
+        (λ t. closing-empty s now output calls w g t)
+        (λ t. run-empty calls (call s c .state) next (rw (g, t) at e)))
+        (λ g. run-empty calls (call s c .state) next (rw g at e))

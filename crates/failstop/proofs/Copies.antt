@@ -16,7 +16,8 @@ use Rattle.rules.specs.declared.Settings.{Settings}
 use Rattle.rules.specs.Replica.{newState, requestsOf}
 use Rattle.rules.specs.Run.{Call, delivery, turn}
 use Rattle.rules.specs.Machine.{signedBy}
-use Rattle.failstop.specs.Suppose.{Correct, Lent, Supposed, runOf, messagesOf, arrivalsOf}
+use Rattle.failstop.specs.Suppose.{Correct, Supposed}
+use Rattle.failstop.specs.Runs.{Lent, Ran, accountOf}
 use Rattle.rules.specs.declared.Pending.{Pending}
 use Rattle.question.proofs.Questions.{AllYes}
 use Rattle.laws.proofs.Lists.{keep-in, in-keep, map-in, map-keep, tally-hit}
@@ -37,62 +38,63 @@ all-lent : (calls : List Call) → Lent calls → AllLent calls
 all-lent calls lent (delivery bytes now) i = lent bytes now i
 all-lent calls lent (turn now output) i = tt
 
-module _ (u : Settings) (faulty : ℕ → Bool) (calls : ℕ → List Call) (bag : List Request) (sup : Supposed u faulty calls bag) where
+module _ (u : Settings) (faulty : ℕ → Bool) (calls : ℕ → List Call) (bag : List Request) (ran : Ran u faulty calls)
+    (sup : Supposed u faulty (accountOf u calls) bag) where
   -- ── one correct replica ──
 
   module _ (i : ℕ) (ok : Correct u faulty i) where
     made : Made u i
-    made = make-made u i (sup .made i ok)
+    made = make-made u i (ran .made i ok)
 
     going : Going u i (newState u i) (calls i)
-    going = record { sound = new-sound u i; lent = all-lent (calls i) (sup .lent i ok) }
+    going = record { sound = new-sound u i; lent = all-lent (calls i) (ran .lent i ok) }
 
     -- the machine on its own arrivals
     abbrev own : Effect Store
-    own = machineOf u (requestsOf (arrivalsOf u calls i))
+    own = machineOf u (requestsOf (accountOf u calls i .arrivals))
 
-    own-machine : record { state = runOf u calls i .state .store; sent = toGroup (u .owner) (messagesOf u calls i) } ≡ signed i own
+    own-machine : record { state = accountOf u calls i .store; sent = toGroup (u .owner) (accountOf u calls i .sent) } ≡ signed i own
     own-machine = run-is-machine u i made (calls i) going (sup .orderly i ok .rule) (sup .orderly i ok .closed)
 
     common-machine : Alike own (machineOf u bag)
-    common-machine = machine-alike (u .k) (u .owner) (requestsOf (arrivalsOf u calls i)) bag (sup .orderly i ok .same)
+    common-machine = machine-alike (u .k) (u .owner) (requestsOf (accountOf u calls i .arrivals)) bag (sup .orderly i ok .same)
 
-    pub holds-machine : runOf u calls i .state .store ≡ machineOf u bag .state
+    pub holds-machine : accountOf u calls i .store ≡ machineOf u bag .state
     holds-machine = ap (λ (e : Effect Store). e .state) own-machine ∙ common-machine .state
 
-    pub sends-machine : toGroup (u .owner) (messagesOf u calls i) ≡ map (signedBy i) (own .sent)
+    pub sends-machine : toGroup (u .owner) (accountOf u calls i .sent) ≡ map (signedBy i) (own .sent)
     sends-machine = ap (λ (e : Effect Store). e .sent) own-machine
 
-    pub same-but-replies : SameButReplies (toGroup (u .owner) (messagesOf u calls i)) (map (signedBy i) (machineOf u bag .sent))
+    pub same-but-replies : SameButReplies (toGroup (u .owner) (accountOf u calls i .sent)) (map (signedBy i) (machineOf u bag .sent))
     same-but-replies = rw sends-machine (record {
       messages = perm-map (signedBy i) (common-machine .sent);
       halts = rw (map-keep (signedBy i) isHalt (own .sent), common-machine .halts) (sym (map-keep (signedBy i) isHalt (machineOf u bag .sent)));
-      left = signed-rising i (own .sent) (machine-rising (u .k) (u .owner) (requestsOf (arrivalsOf u calls i)));
+      left = signed-rising i (own .sent) (machine-rising (u .k) (u .owner) (requestsOf (accountOf u calls i .arrivals)));
       right = signed-rising i (machineOf u bag .sent) (machine-rising (u .k) (u .owner) bag);
     })
 
     -- what it sends the owner is the machine's, signed
-    pub from-machine : (m : Message) → List·Memᴰ m (messagesOf u calls i) → m .group ≡ u .owner
+    pub from-machine : (m : Message) → List·Memᴰ m (accountOf u calls i .sent) → m .group ≡ u .owner
         → (n : Message) × List·Memᴰ n (machineOf u bag .sent) × (m ≡ signedBy i n)
     from-machine m j g =
         map-in (signedBy i) (machineOf u bag .sent) (perm-in (same-but-replies .messages) m
-        (in-keep (λ (x : Message). eqb (x .group) (u .owner)) (messagesOf u calls i) j (eq-eqb (m .group) (u .owner) g)))
+        (in-keep (λ (x : Message). eqb (x .group) (u .owner)) (accountOf u calls i .sent) j (eq-eqb (m .group) (u .owner) g)))
 
     -- and it sends each of the machine's
-    pub to-replica : (n : Message) → List·Memᴰ n (machineOf u bag .sent) → List·Memᴰ (signedBy i n) (messagesOf u calls i)
+    pub to-replica : (n : Message) → List·Memᴰ n (machineOf u bag .sent) → List·Memᴰ (signedBy i n) (accountOf u calls i .sent)
     to-replica n j =
-        keep-in (λ (x : Message). eqb (x .group) (u .owner)) (messagesOf u calls i)
+        keep-in (λ (x : Message). eqb (x .group) (u .owner)) (accountOf u calls i .sent)
         (perm-in (Permᴰ·symm (same-but-replies .messages)) (signedBy i n) (Memᴰ·map (signedBy i) j)) .0
 
     -- all that it sends passes the questions
-    pub sent-passes : (m : Message) → List·Memᴰ m (messagesOf u calls i) → passes (u .k) (u .groups) m ≡ true
+    pub sent-passes : (m : Message) → List·Memᴰ m (accountOf u calls i .sent) → passes (u .k) (u .groups) m ≡ true
     sent-passes m j = facts-pass (run-sendable u i made (calls i) (newState u i) going m j .fields)
 
     -- and every request of the bag was accepted by it
     bag-accepted : (r : Request) → List·Memᴰ r bag → Owned u r
     bag-accepted r j =
-        let d = bag-perm (requestsOf (arrivalsOf u calls i)) bag (sup .orderly i ok .same) in
-        let p = map-in (λ (x : Pending). x .request) (arrivalsOf u calls i) (perm-in (Permᴰ·symm d) r j) in
+        let d = bag-perm (requestsOf (accountOf u calls i .arrivals)) bag (sup .orderly i ok .same) in
+        let p = map-in (λ (x : Pending). x .request) (accountOf u calls i .arrivals) (perm-in (Permᴰ·symm d) r j) in
         rw (p .2) (arrivals-later u i made (calls i) (newState u i) going (p .0) (p .1) .1)
 
   -- ── some replica is correct ──

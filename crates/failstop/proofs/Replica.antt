@@ -10,6 +10,7 @@ use Rattle.rules.specs.Replica.{State, newState, requestsOf}
 use Rattle.rules.specs.Run.{Call, run, arrivals}
 use Rattle.rules.specs.Machine.{machine}
 use Rattle.failstop.specs.Suppose.{ArrivalRule, Closed}
+use Rattle.failstop.specs.Runs.{account}
 use Rattle.rules.specs.declared.Pending.{Pending}
 use Rattle.laws.proofs.Lists.{no-member}
 use Rattle.laws.proofs.Machine.{machine-from-new, machine-none}
@@ -33,14 +34,14 @@ module _ (u : Settings) (me : ℕ) (ok : Made u me) (calls : List Call) (going :
   start : Underway u me all new calls
   start = record { going = going; pending = λ p i. absurd (List·Memᴰ·not-nil i); coming = λ p i. i }
 
-  nothing-left : Closed new calls → mine u (done .state .pending) ≡ []
+  nothing-left : Closed (u .delta) (account u me calls) → mine u (done .state .pending) ≡ []
   nothing-left (inl e) = run-empty u me ok all calls new start e
   nothing-left (inr e) = no-member _ (λ p i. ⊎-elim
       List·Memᴰ·not-nil
       (λ j. List·Memᴰ·not-nil (rw e at j))
       (run-pending u me ok calls new going p i))
 
-  pub run-is-machine : ArrivalRule (u .delta) all → Closed new calls
+  pub run-is-machine : ArrivalRule (u .delta) all → Closed (u .delta) (account u me calls)
       → record { state = done .state .store; sent = toGroup (u .owner) (done .sent) } ≡ signed me (machine (u .k) (u .owner) (requestsOf all))
   run-is-machine rule closed =
       let loose = arrivals-loose u me ok calls new going rule in

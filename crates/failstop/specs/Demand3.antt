@@ -1,4 +1,4 @@
--- The third demand: one claim about whole runs, and about what is voted and counted on their messages.
+-- The third demand: one claim about whole runs, by their accounts, and about what is voted and counted on their messages.
 use Prim.Native.Nat.{ℕ, _+_, _≤_}
 use mathlib.Core.Path.{_≡_}
 use mathlib.Core.Logic.{_↔_}
@@ -14,11 +14,10 @@ use Rattle.record.specs.declared.message.Message.{Message}
 use Rattle.rules.specs.Lists.{keep, some}
 use Rattle.rules.specs.Batch.{Store, Effect, valueOf, failed, allReads, replyWith}
 use Rattle.rules.specs.Replica.{stamped, requestsOf}
-use Rattle.rules.specs.Run.{Call}
 use Rattle.rules.specs.Machine.{machine, signedBy}
 use Rattle.rules.specs.Vote.{queryOf, haltsFor, vote, haltCount}
 use Rattle.rules.specs.declared.Settings.{Settings}
-use Rattle.failstop.specs.Suppose.{Correct, runOf, messagesOf, arrivalsOf, Authentic, CompleteForRead, CompleteForHalts}
+use Rattle.failstop.specs.Suppose.{Account, Correct, Authentic, CompleteForRead, CompleteForHalts}
 
 -- ── the machine's figures ──
 
@@ -58,26 +57,26 @@ pub record SameButReplies (a b : List Message) : Type 0 where
 
 -- ── what is claimed ──
 
--- all that is claimed of the runs, and of votes and halt counts on their messages
-pub record Demand3 (u : Settings) (faulty : ℕ → Bool) (calls : ℕ → List Call) (bag : List Request) : Type 0 where
+-- all that is claimed of the accounts, and of votes and halt counts on their messages
+pub record Demand3 (u : Settings) (faulty : ℕ → Bool) (accounts : ℕ → Account) (bag : List Request) : Type 0 where
   -- each correct replica holds the variables, the failed mark and the count of writes of one and the same machine
-  pub holds : (i : ℕ) → Correct u faulty i → runOf u calls i .state .store ≡ machineOf u bag .state
+  pub holds : (i : ℕ) → Correct u faulty i → accounts i .store ≡ machineOf u bag .state
   -- what it sent the owner is the machine's, in the machine's order: one timestamp's replies in its own order of arrival,
   pub sends : (i : ℕ) → Correct u faulty i
-      → toGroup (u .owner) (messagesOf u calls i) ≡ map (signedBy i) (machineOf u (requestsOf (arrivalsOf u calls i)) .sent)
+      → toGroup (u .owner) (accounts i .sent) ≡ map (signedBy i) (machineOf u (requestsOf (accounts i .arrivals)) .sent)
   -- and nothing else of it differs from what the machine makes of the common bag
-  pub alike : (i : ℕ) → Correct u faulty i → SameButReplies (toGroup (u .owner) (messagesOf u calls i)) (map (signedBy i) (machineOf u bag .sent))
+  pub alike : (i : ℕ) → Correct u faulty i → SameButReplies (toGroup (u .owner) (accounts i .sent)) (map (signedBy i) (machineOf u bag .sent))
   -- a reply with the machine's value for each of the owner's reads that is not mixed with a write
   pub answered : (i : ℕ) → Correct u faulty i → (r : Request) → List·Memᴰ r bag → Unmixed bag r
-      → List·Memᴰ (replyWith (valueAt u bag r) i r) (messagesOf u calls i)
+      → List·Memᴰ (replyWith (valueAt u bag r) i r) (accounts i .sent)
   -- a halt to each of the owner's processes exactly when the machine failed
   pub halted : (i : ℕ) → Correct u faulty i → (process : ℕ) → 1 ≤ process → process ≤ u .k + 1
-      → (some (haltsFor (u .owner) process) (messagesOf u calls i) ≡ true) ↔ (failed (machineOf u bag .state) ≡ true)
+      → (some (haltsFor (u .owner) process) (accounts i .sent) ≡ true) ↔ (failed (machineOf u bag .state) ≡ true)
   -- the vote on each such read returns the machine's value, whatever the faulty replicas sent
   pub elected : (r : Request) → List·Memᴰ r bag → Unmixed bag r
-      → (list : List Message) → length list ≤ maxList → Authentic u faulty calls list → CompleteForRead u faulty r list
+      → (list : List Message) → length list ≤ maxList → Authentic u faulty accounts list → CompleteForRead u faulty r list
       → vote (u .k) (u .groups) (queryOf r) list ≡ given (valueAt u bag r)
   -- the halt count for each of the owner's processes reaches k + 1 exactly when the machine failed
   pub counted : (process : ℕ) → 1 ≤ process → process ≤ u .k + 1
-      → (list : List Message) → length list ≤ maxList → Authentic u faulty calls list → CompleteForHalts u faulty calls process list
+      → (list : List Message) → length list ≤ maxList → Authentic u faulty accounts list → CompleteForHalts u faulty accounts process list
       → (n : ℕ) × (haltCount (u .k) (u .groups) (u .owner) process list ≡ given n) × ((u .k + 1 ≤ n) ↔ (failed (machineOf u bag .state) ≡ true))

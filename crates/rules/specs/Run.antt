@@ -5,7 +5,7 @@ use mathlib.Core.List.{List, [], _∷_, _++_}
 use lib.Dec.{eqb}
 use lib.ListN.{take, drop}
 use Rattle.limits.specs.Limits.{recordSize}
-use Rattle.question.specs.Question.{Answer, given, refused, after}
+use Rattle.question.specs.Question.{Answer, given, refused, isGiven, after}
 use Rattle.record.specs.Record.{readMessage}
 use Rattle.record.specs.declared.clock.LocalTime.{LocalTime}
 use Rattle.record.specs.declared.request.Request.{Request}
@@ -58,3 +58,14 @@ arrivalOf s (turn now output) = []
 unfoldable pub arrivals : State → List Call → List Pending
 arrivals s [] = []
 arrivals s (c ∷ calls) = arrivalOf s c ++ arrivals (call s c .state) calls
+
+-- ── which steps were accepted ──
+
+abbrev pub stepOf : State → Call → List LocalTime
+stepOf s (delivery bytes now) = []
+stepOf s (turn now output) = cond (isGiven (step s now output)) (now ∷ []) []
+
+-- the local times of a run's accepted steps, in order
+unfoldable pub stepTimes : State → List Call → List LocalTime
+stepTimes s [] = []
+stepTimes s (c ∷ calls) = stepOf s c ++ stepTimes (call s c .state) calls
