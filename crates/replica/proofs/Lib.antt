@@ -3,4 +3,4 @@ pub mod Written
 pub mod Handled
 pub mod Sends
 pub mod Visited
-pub mod Calls
+pub mod Called
