@@ -1,0 +1,3 @@
+pub mod Accounts
+pub mod Same
+pub mod Unit

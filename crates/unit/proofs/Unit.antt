@@ -1,0 +1,57 @@
+-- The third demand of the code, from the contracts of its functions.
+use Prim.Native.Nat.{ℕ}
+use mathlib.Core.Path.{_≡_, refl, _∙_}
+use mathlib.Core.Bool.{Bool}
+use mathlib.Core.List.{List}
+use native.Mathlib.Omega.{arith}
+use Rattle.question.specs.Question.{given}
+use Rattle.record.specs.declared.request.Request.{Request}
+use Rattle.rules.specs.Run.{Call}
+use Rattle.rules.specs.declared.Settings.{Settings}
+use Rattle.failstop.specs.Suppose.{Correct}
+use Rattle.failstop.specs.Runs as rules
+use Rattle.failstop.specs.Demand3.{Demand3}
+use Rattle.failstop.proofs.Demand3.{demand3}
+use Rattle.ballot.specs.Answers.{voteAnswer, haltAnswer}
+use Rattle.ballot.specs.declared.count.VoteAnswer.{VoteAnswer}
+use Rattle.ballot.specs.declared.count.HaltAnswer.{HaltAnswer}
+use Rattle.unit.specs.Life.{Life}
+use Rattle.unit.specs.Unit.{accounts, Ran, Unit3}
+use Rattle.unit.proofs.Accounts.{callsOf, life-made, life-account, life-lent}
+use Rattle.unit.proofs.Same.{supposed-same, claims-same}
+
+-- an answer of the code that stands for a value is that value
+value-is : (answer : VoteAnswer) {value : ℕ} → voteAnswer answer ≡ given value → answer ≡ VoteAnswer.Value value
+value-is (VoteAnswer.Value v) {value} e = let i : v ≡ value = cc in rw i
+value-is (VoteAnswer.Refused number) e = absurd (let z : _≡_ {A = ℕ} 0 1 = cc in omega arith)
+
+count-is : (answer : HaltAnswer) {count : ℕ} → haltAnswer answer ≡ given count → answer ≡ HaltAnswer.Count count
+count-is (HaltAnswer.Count c) {count} e = let i : c ≡ count = cc in rw i
+count-is (HaltAnswer.Refused number) e = absurd (let z : _≡_ {A = ℕ} 0 1 = cc in omega arith)
+
+module _ (u : Settings) (faulty : ℕ → Bool) (lives : ℕ → Life) (bag : List Request) (ran : Ran u faulty lives bag) where
+  -- each replica's calls, without their answers
+  abbrev calls : ℕ → List Call
+  calls i = callsOf (lives i .events)
+
+  same : (i : ℕ) → Correct u faulty i → accounts u lives i ≡ rules.accountOf u calls i
+  same i ok = life-account u i (lives i) (ran .lived i ok)
+
+  claimed : Demand3 u faulty (accounts u lives) bag
+  claimed =
+      let by-rules : rules.Ran u faulty calls = record {
+        made = λ i ok. life-made u i (lives i) (ran .lived i ok);
+        lent = λ i ok. life-lent u i (lives i) (ran .lived i ok);
+      } in
+      claims-same u faulty (accounts u lives) (rules.accountOf u calls) same bag
+      (demand3 u faulty calls bag by-rules (supposed-same u faulty (accounts u lives) (rules.accountOf u calls) same bag (ran .supposed)))
+
+  pub unit : Unit3 u faulty lives bag
+  unit = record {
+    claims = claimed;
+    elected = λ r sent unmixed list short authentic complete answer votes.
+        value-is answer (votes ∙ claimed .elected r sent unmixed list short authentic complete);
+    counted = λ process low high list short authentic complete answer counts.
+        let c = claimed .counted process low high list short authentic complete in
+        (c .0, count-is answer (counts ∙ c .1), c .2);
+  }

@@ -1,0 +1,87 @@
+-- The life of a replica of the code: how it was made, what passed between it and whoever called it, and what it is at the end.
+use Prim.Native.Nat.{ℕ}
+use mathlib.Core.Path.{_≡_}
+use mathlib.Core.List.{List, [], _∷_, _++_}
+use Rattle.question.specs.declared.Outcome.{Outcome}
+use Rattle.record.specs.Number.{Bytes}
+use Rattle.record.specs.Record.{readRequest}
+use Rattle.record.specs.declared.clock.LocalTime.{LocalTime}
+use Rattle.record.specs.declared.message.Message.{Message}
+use Rattle.rules.specs.Run.{messagesIn, arrived}
+use Rattle.rules.specs.declared.Pending.{Pending}
+use Rattle.rules.specs.declared.Settings.{Settings}
+use Rattle.failstop.specs.Suppose.{Account}
+use Rattle.batch.specs.State.{stateOf}
+use Rattle.batch.specs.declared.state.Replica.{Replica}
+use Rattle.delivery.specs.declared.making.Made.{Made}
+use Rattle.delivery.proofs.Called.{Makes, Delivers}
+use Rattle.replica.specs.declared.stepping.StepAnswer.{StepAnswer}
+use Rattle.replica.proofs.Called.{Steps}
+
+-- ── calls ──
+
+-- what passes in a call
+pub data Event : Type 0 where
+  -- a delivery: the bytes, the local time and the outcome
+  delivered : List ℕ → LocalTime → Outcome → Event
+  -- a step: the local time, the output, the answer and the output afterwards
+  stepped : LocalTime → List ℕ → StepAnswer → List ℕ → Event
+
+-- a call takes r to r′, and this passed: as the contract of the function has it. What is delivered are bytes, as a lent slice holds them
+pub data Does (r r′ : Replica) : Event → Type 0 where
+  delivers : {bytes : List ℕ} {at : LocalTime} {outcome : Outcome} → Bytes bytes
+      → Delivers r bytes at (record { outcome = outcome; replica = r′ }) → Does r r′ (delivered bytes at outcome)
+  steps : {at : LocalTime} {output output′ : List ℕ} {answer : StepAnswer}
+      → Steps r at output (record { answer = answer; replica = r′ }) output′ → Does r r′ (stepped at output answer output′)
+
+-- one call after another, each on what the last one left
+pub data Runs : Replica → List Event → Replica → Type 0 where
+  start : {r : Replica} → Runs r [] r
+  then : {r r′ r″ : Replica} {e : Event} {events : List Event} → Does r r′ e → Runs r′ events r″ → Runs r (e ∷ events) r″
+
+-- ── a life ──
+
+pub record Life : Type 0 where
+  pub made : Made
+  pub events : List Event
+  pub last : Replica
+
+-- the code made it with the unit's settings and its own number, and then got those calls
+pub record Lived (u : Settings) (number : ℕ) (l : Life) : Type 0 where
+  pub makes : Makes u number (l .made)
+  pub accepted : l .made .outcome ≡ Outcome.Done
+  pub runs : Runs (l .made .replica) (l .events) (l .last)
+
+-- ── what is told by the answers ──
+
+-- the owner's request, if the delivery of one was accepted
+abbrev pub arrivedIn : Settings → Event → List Pending
+arrivedIn u (delivered bytes at Outcome.Done) = arrived (u .owner) at (readRequest (u .k) (u .groups) bytes)
+arrivedIn u (delivered bytes at (Outcome.Refused number)) = []
+arrivedIn u (stepped at output answer output′) = []
+
+-- the local time of an accepted step
+abbrev pub stepIn : Event → List LocalTime
+stepIn (delivered bytes at outcome) = []
+stepIn (stepped at output (StepAnswer.Sent count) output′) = at ∷ []
+stepIn (stepped at output (StepAnswer.Refused number) output′) = []
+
+-- the messages whose records it counted, read from the output
+abbrev pub sentIn : Settings → Event → List Message
+sentIn u (delivered bytes at outcome) = []
+sentIn u (stepped at output (StepAnswer.Sent count) output′) = messagesIn (u .k) (u .groups) count output′
+sentIn u (stepped at output (StepAnswer.Refused number) output′) = []
+
+-- of all events, one after the other
+abbrev pub gather : {A : Type 0} → (Event → List A) → List Event → List A
+gather f [] = []
+gather f (e ∷ events) = f e ++ gather f events
+
+-- the account that a life gives of itself
+abbrev pub accountIn : Settings → Life → Account
+accountIn u l = record {
+  arrivals = gather (arrivedIn u) (l .events);
+  steps = gather stepIn (l .events);
+  sent = gather (sentIn u) (l .events);
+  store = stateOf (l .last) .store;
+}
