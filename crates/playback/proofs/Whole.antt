@@ -12,7 +12,7 @@ use Rattle.record.specs.Layout.{fieldsOf, bytesOf}
 use Rattle.record.specs.Kind.{read, write}
 use Rattle.record.specs.Record.{requestFields, fieldQuestions, readFields, writeFields}
 use Rattle.rules.specs.Batch.{verdictOf, handle}
-use Rattle.rules.specs.Replica.{admit, deliver, handleBatch, visit, visits, writeAll, stepped, step}
+use Rattle.rules.specs.Replica.{admit, deliver, handleBatch, visit, visits, put, putAll, stepped, step}
 use Rattle.rules.specs.Run.{messagesIn}
 use Rattle.entry.specs.Entry.{readSetup, readEntry}
 use Rattle.playback.specs.Play.{playEntry}
@@ -48,5 +48,5 @@ ascii text.[] = []
 ascii (text._∷_ c s) = code c ∷ ascii s
 
 pub whole-run : journal input ≡ ascii "reply 1 1 1 51 3 9\ncard 1 0 1\n"
-unfolding ask unitQuestions number digits fieldsOf bytesOf fieldQuestions readFields writeFields verdictOf handle admit deliver handleBatch visit visits writeAll stepped step messagesIn readSetup readEntry playEntry places decimal line playAll journal
+unfolding ask unitQuestions number digits fieldsOf bytesOf fieldQuestions readFields writeFields verdictOf handle admit deliver handleBatch visit visits put putAll stepped step messagesIn readSetup readEntry playEntry places decimal line playAll journal
 whole-run = refl

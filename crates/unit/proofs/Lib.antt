@@ -1,3 +1,6 @@
 pub mod Accounts
 pub mod Same
 pub mod Unit
+-- what is supposed can be met
+pub mod Lives
+pub mod Instances

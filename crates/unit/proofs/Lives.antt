@@ -1,0 +1,192 @@
+-- What the theorem supposes of the code can be met: every run of the rules is the life of a replica as the contracts describe it.
+use Prim.Native.Nat.{ℕ, _-_}
+use mathlib.Core.Path.{_≡_, refl, sym, ap, subst, _∙_}
+use mathlib.Core.Bool.{Bool}
+use mathlib.Core.List.{List, [], _∷_, _++_, List·Memᴰ·head, List·Memᴰ·tail}
+use native.Mathlib.Omega.{arith}
+use lib.ListN.{length, replicate}
+use lib.Seq.{take-at}
+use denote.Ref.{RefT}
+use Rattle.limits.specs.Limits.{places}
+use Rattle.question.specs.Question.{Answer, given, refused, after, mapAnswer, verdict, outcome}
+use Rattle.question.specs.declared.Outcome.{Outcome}
+use Rattle.record.specs.declared.clock.LocalTime.{LocalTime}
+use Rattle.record.specs.declared.request.Request.{Request}
+use Rattle.rules.specs.Replica.{State, Stepped, newState, make, deliver, step}
+use Rattle.rules.specs.Run.{Call, delivery, turn, sentBy, call, run}
+use Rattle.rules.specs.declared.Settings.{Settings}
+use Rattle.laws.proofs.Calls.{LentTo, AllLent}
+use Rattle.failstop.specs.Suppose.{Correct, Supposed}
+use Rattle.failstop.specs.Runs as rules
+use Rattle.batch.specs.State.{free, stateOf}
+use Rattle.batch.specs.declared.state.Replica.{Replica}
+use Rattle.delivery.specs.Made.{newReplica}
+use Rattle.replica.specs.Answer.{stepAnswer}
+use Rattle.replica.specs.declared.stepping.StepAnswer.{StepAnswer}
+use Rattle.unit.specs.Life.{Life, Lived, accountIn, Event, delivered, stepped, Does, delivers, steps, Runs, start, then}
+use Rattle.unit.specs.Unit.{accounts, Ran}
+use Rattle.unit.proofs.Accounts.{callOf, callsOf, life-account}
+use Rattle.unit.proofs.Same.{supposed-same}
+
+-- ── the struct of a state ──
+
+abbrev replicaOf : State → Replica
+replicaOf s = record {
+  settings = s .settings;
+  number = s .number;
+  last = s .last;
+  variables = s .store .variables;
+  queue = record { pending = s .pending ++ replicate (places - length (s .pending)) free; count = length (s .pending) };
+  writes = s .store .writes;
+}
+
+state-of-struct : (s : State) → stateOf (replicaOf s) ≡ s
+state-of-struct s = rw (take-at (s .pending) (replicate (places - length (s .pending)) free) (length (s .pending)) refl)
+
+-- a lent slice
+abbrev lentAs : List ℕ → RefT (List ℕ)
+lentAs bytes = record { ptr = (0, 0); name = 0; now = bytes }
+
+-- ── the answers of the rules as the code gives them ──
+
+abbrev outcomeOf : Answer State → Outcome
+outcomeOf (given s) = Outcome.Done
+outcomeOf (refused number) = Outcome.Refused number
+
+abbrev answerOf : Answer Stepped → StepAnswer
+answerOf (given d) = StepAnswer.Sent (d .count)
+answerOf (refused number) = StepAnswer.Refused number
+
+abbrev eventOf : State → Call → Event
+eventOf s (delivery bytes at) = delivered bytes at (outcomeOf (deliver s bytes at))
+eventOf s (turn at output) = stepped at output (answerOf (step s at output)) (after output (mapAnswer (λ d. d .output) (step s at output)))
+
+-- ── one call ──
+
+outcome-is : (a : Answer State) → outcome (outcomeOf a) ≡ verdict a
+outcome-is (given s) = refl
+outcome-is (refused number) = refl
+
+answer-is : (a : Answer Stepped) → stepAnswer (answerOf a) ≡ mapAnswer (λ d. d .count) a
+answer-is (given d) = refl
+answer-is (refused number) = refl
+
+-- a refusal leaves the struct
+kept-if-refused : (s : State) (a : Answer State) (q : ℕ) → outcome (outcomeOf a) ≡ refused q → replicaOf (after s a) ≡ replicaOf s
+kept-if-refused s (given t) q e = absurd (let z : _≡_ {A = ℕ} 0 1 = cc in omega arith)
+kept-if-refused s (refused number) q e = refl
+
+kept-if-not-stepped : (s : State) (a : Answer Stepped) (q : ℕ) → stepAnswer (answerOf a) ≡ refused q
+    → replicaOf (after s (mapAnswer (λ d. d .state) a)) ≡ replicaOf s
+kept-if-not-stepped s (given d) q e = absurd (let z : _≡_ {A = ℕ} 0 1 = cc in omega arith)
+kept-if-not-stepped s (refused number) q e = refl
+
+delivery-done : (s : State) (bytes : List ℕ) (at : LocalTime) → LentTo (delivery bytes at)
+    → Does (replicaOf s) (replicaOf (after s (deliver s bytes at))) (eventOf s (delivery bytes at))
+delivery-done s bytes at lent =
+    let a = deliver s bytes at in
+    let same = sym (state-of-struct s) in
+    delivers lent (record {
+      lifetimes = ([], tt);
+      slice = lentAs bytes;
+      lent = refl;
+      learnt = (
+        outcome-is a ∙ ap (λ (t : State). verdict (deliver t bytes at)) same,
+        (state-of-struct (after s a) ∙ ap (λ (t : State). after t (deliver t bytes at)) same, kept-if-refused s a),
+      );
+    })
+
+step-done : (s : State) (at : LocalTime) (output : List ℕ)
+    → Does (replicaOf s) (replicaOf (after s (mapAnswer (λ d. d .state) (step s at output)))) (eventOf s (turn at output))
+step-done s at output =
+    let a = step s at output in
+    let same = sym (state-of-struct s) in
+    steps (record {
+      lifetimes = ([], tt);
+      slice = lentAs output;
+      lent = refl;
+      learnt = (
+        answer-is a ∙ ap (λ (t : State). mapAnswer (λ d. d .count) (step t at output)) same,
+        (
+          state-of-struct (after s (mapAnswer (λ d. d .state) a)) ∙ ap (λ (t : State). after t (mapAnswer (λ d. d .state) (step t at output))) same,
+          (ap (λ (t : State). after output (mapAnswer (λ d. d .output) (step t at output))) same, kept-if-not-stepped s a),
+        ),
+      );
+    })
+
+stepped-state : (s : State) (a : Answer Stepped) → after s (mapAnswer (λ d. d .state) a) ≡ sentBy s a .state
+stepped-state s (given d) = refl
+stepped-state s (refused number) = refl
+
+call-done : (s : State) (c : Call) → LentTo c → Does (replicaOf s) (replicaOf (call s c .state)) (eventOf s c)
+unfolding call
+call-done s (delivery bytes at) lent = delivery-done s bytes at lent
+call-done s (turn at output) lent =
+    subst (λ (t : State). Does (replicaOf s) (replicaOf t) (eventOf s (turn at output))) (stepped-state s (step s at output)) (step-done s at output)
+
+call-of-event : (s : State) (c : Call) → callOf (eventOf s c) ≡ c
+call-of-event s (delivery bytes at) = refl
+call-of-event s (turn at output) = refl
+
+-- ── a whole life ──
+
+abbrev eventsOf : State → List Call → List Event
+eventsOf s [] = []
+eventsOf s (c ∷ calls) = eventOf s c ∷ eventsOf (call s c .state) calls
+
+calls-done : (calls : List Call) (s : State) → AllLent calls → Runs (replicaOf s) (eventsOf s calls) (replicaOf (run s calls .state))
+unfolding run
+calls-done [] s lent = start
+calls-done (c ∷ calls) s lent =
+    then (call-done s c (lent c (List·Memᴰ·head refl))) (calls-done calls (call s c .state) (λ x i. lent x (List·Memᴰ·tail i)))
+
+calls-of-events : (calls : List Call) (s : State) → callsOf (eventsOf s calls) ≡ calls
+calls-of-events [] s = refl
+calls-of-events (c ∷ calls) s = rw (call-of-event s c, calls-of-events calls (call s c .state))
+
+abbrev pub lifeOf : Settings → ℕ → List Call → Life
+lifeOf u number calls =
+    let s = newState u number in
+    record {
+      made = record { outcome = Outcome.Done; replica = newReplica u number };
+      events = eventsOf s calls;
+      last = replicaOf (run s calls .state);
+    }
+
+pub life-lived : (u : Settings) (number : ℕ) (calls : List Call) → make u number ≡ given (newState u number) → AllLent calls
+    → Lived u number (lifeOf u number calls)
+life-lived u number calls made lent = record {
+  makes = record {
+    lifetimes = tt;
+    learnt = rw made (refl, (refl, λ q e. absurd (let z : _≡_ {A = ℕ} 0 1 = cc in omega arith)));
+  };
+  accepted = refl;
+  runs = calls-done calls (newState u number) lent;
+}
+
+-- and it gives the account of the run
+pub life-account-is : (u : Settings) (number : ℕ) (calls : List Call) → make u number ≡ given (newState u number) → AllLent calls
+    → accountIn u (lifeOf u number calls) ≡ rules.account u number calls
+life-account-is u number calls made lent =
+    life-account u number (lifeOf u number calls) (life-lived u number calls made lent)
+    ∙ ap (rules.account u number) (calls-of-events calls (newState u number))
+
+-- ── a unit ──
+
+abbrev pub livesOf : Settings → (ℕ → List Call) → ℕ → Life
+livesOf u calls i = lifeOf u i (calls i)
+
+-- a unit of the rules that meets what is supposed is one of the code
+module _ (u : Settings) (faulty : ℕ → Bool) (calls : ℕ → List Call) (ran : rules.Ran u faulty calls) where
+  lent-all : (i : ℕ) → Correct u faulty i → AllLent (calls i)
+  lent-all i ok (delivery bytes now) j = ran .lent i ok bytes now j
+  lent-all i ok (turn now output) j = tt
+
+  pub lives-same : (i : ℕ) → Correct u faulty i → rules.accountOf u calls i ≡ accounts u (livesOf u calls) i
+  lives-same i ok = sym (life-account-is u i (calls i) (ran .made i ok) (lent-all i ok))
+
+  pub lives-ran : (bag : List Request) → Supposed u faulty (rules.accountOf u calls) bag → Ran u faulty (livesOf u calls) bag
+  lives-ran bag sup = record {
+    lived = λ i ok. life-lived u i (calls i) (ran .made i ok) (lent-all i ok);
+    supposed = supposed-same u faulty (rules.accountOf u calls) (accounts u (livesOf u calls)) lives-same bag sup;
+  }
