@@ -105,7 +105,7 @@ batchAt-in group t pending {p} m =
     let b = both (ofGroup group p) (stamped t (p .request)) (a .1) in
     (a .0, eqb-true (p .request .group) group (b .0), eqb-true (p .request .timestamp .0) (t .0) (b .1))
 
-in-batch : (group : ℕ) (t : Timestamp) (p : Pending) → p .request .group ≡ group → p .request .timestamp .0 ≡ t .0 → inBatch group t p ≡ true
+pub in-batch : (group : ℕ) (t : Timestamp) (p : Pending) → p .request .group ≡ group → p .request .timestamp .0 ≡ t .0 → inBatch group t p ≡ true
 in-batch group t p e f = rw (eq-eqb (p .request .group) group e, eq-eqb (p .request .timestamp .0) (t .0) f)
 
 module _ (group : ℕ) (pending : List Pending) where
@@ -113,16 +113,18 @@ module _ (group : ℕ) (pending : List Pending) where
   request-in p m e = Memᴰ·map (λ (x : Pending). x .request) (in-keep (ofGroup group) pending m (eq-eqb (p .request .group) group e))
 
   -- a group that has a pending request has a batch
-  pub batch-some : (p : Pending) → List·Memᴰ p pending → p .request .group ≡ group → 0 < length (batchOf group pending)
-  batch-some p m e =
+  pub batch-hit : (p : Pending) → List·Memᴰ p pending → p .request .group ≡ group → (q : Pending) × List·Memᴰ q (batchOf group pending)
+  batch-hit p m e =
       let mine = keep (ofGroup group) pending in
       let t = groupTimestamp group pending in
       let a = least-hit (requestsOf mine) (request-in p m e) in
       let b = map-in (λ (x : Pending). x .request) mine (a .1) in
       let c : b .0 .request .timestamp .0 ≡ t .0 = ap (λ (r : Request). r .timestamp .0) (sym (b .2)) ∙ a .2 in
       let d = keep-in (ofGroup group) pending (b .1) in
-      in-length (batchOf group pending)
-      (in-keep (inBatch group t) pending (d .0) (in-batch group t (b .0) (eqb-true (b .0 .request .group) group (d .1)) c))
+      (b .0, in-keep (inBatch group t) pending (d .0) (in-batch group t (b .0) (eqb-true (b .0 .request .group) group (d .1)) c))
+
+  pub batch-some : (p : Pending) → List·Memᴰ p pending → p .request .group ≡ group → 0 < length (batchOf group pending)
+  batch-some p m e = in-length (batchOf group pending) (batch-hit p m e .1)
 
   -- no pending request of the group has a lesser timestamp than its batch
   pub batch-least : (p : Pending) → List·Memᴰ p pending → p .request .group ≡ group → groupTimestamp group pending .0 ≤ p .request .timestamp .0

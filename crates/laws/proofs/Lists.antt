@@ -87,6 +87,11 @@ module _ {A : Type 0} where
       (λ e. case (p x) (λ f. rw (e, f, e, h)) (λ f. rw (e, f) h))
       (λ e. case (p x) (λ f. rw (e, f, e) h) (λ f. rw (e, f) h))
 
+  -- tests that come out alike keep the same
+  pub keep-same : (p q : A → Bool) (l : List A) → ((x : A) → p x ≡ q x) → keep p l ≡ keep q l
+  keep-same p q [] h = refl
+  keep-same p q (x ∷ l) h = rw (h x, keep-same p q l h)
+
   -- a list with no member is empty
   pub no-member : (l : List A) → ((x : A) → List·Memᴰ x l → ⊥) → l ≡ []
   no-member [] h = refl
