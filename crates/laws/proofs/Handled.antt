@@ -124,3 +124,32 @@ module _ (s : State) (now : LocalTime) (output : List ℕ) {d : Stepped} (e : st
   pub step-exactly : d .state .pending ≡ keep (λ p. not (handled s now p)) (s .pending)
   unfolding stepped
   step-exactly = rw (step-accepted s now output e) (visits-exactly (atTime now s) now (s .settings .groups))
+
+  -- a batch is gone exactly when it is stable and so is every pending one of its group with a lesser timestamp
+  pub gone-exactly : (g : ℕ) (t : Timestamp) → 1 ≤ g → g ≤ s .settings .groups → {p : Pending} → List·Memᴰ p (batchAt g t (s .pending))
+      → (batchAt g t (d .state .pending) ≡ []) ↔ StableUpTo (s .settings .delta) now (s .pending) g t
+  gone-exactly g t low high {p} i = (
+    λ none. cleared-in (s .settings .delta) now (s .pending) g t (case (cleared (s .settings .delta) now (s .pending) g t)
+        (λ c. c)
+        (λ c. absurd (List·Memᴰ·not-nil (rw (← step-exactly, none) at (in-keep (inBatch g t) _ (stays c) (in-batch g t p (a .1) (a .2))))))),
+    λ h. rw step-exactly (keep-none (inBatch g t) _ (off (in-cleared (s .settings .delta) now (s .pending) g t h))),
+  )
+    where
+      a : List·Memᴰ p (s .pending) × (p .request .group ≡ g) × (p .request .timestamp .0 ≡ t .0)
+      a = batchAt-in g t (s .pending) i
+
+      -- whether a request of the batch is handled
+      alike : (q : Pending) → q .request .group ≡ g → q .request .timestamp .0 ≡ t .0 → handled s now q ≡ cleared (s .settings .delta) now (s .pending) g t
+      alike q of at = rw (of, same-timestamp {t = q .request .timestamp} {u = t} at, in-within 1 (s .settings .groups) g low high)
+
+      stays : cleared (s .settings .delta) now (s .pending) g t ≡ false → List·Memᴰ p (keep (λ q. not (handled s now q)) (s .pending))
+      stays c = in-keep (λ q. not (handled s now q)) (s .pending) (a .0) (ap not (alike p (a .1) (a .2) ∙ c))
+
+      off : cleared (s .settings .delta) now (s .pending) g t ≡ true
+          → (q : Pending) → List·Memᴰ q (keep (λ q. not (handled s now q)) (s .pending)) → inBatch g t q ≡ false
+      off c q j = case (inBatch g t q)
+          (λ b.
+          let o = both (ofGroup g q) (stamped t (q .request)) b in
+          let here = alike q (eqb-true (q .request .group) g (o .0)) (eqb-true (q .request .timestamp .0) (t .0) (o .1)) ∙ c in
+          true-not-false (handled s now q) here (not-true (handled s now q) (keep-in (λ q. not (handled s now q)) (s .pending) j .1)))
+          (λ b. b)
