@@ -29,7 +29,7 @@ use Rattle.laws.proofs.Calls.{AllLent}
 use Rattle.laws.proofs.Majority.{correct-many}
 use Rattle.failstop.specs.Demand3.{machineOf, toGroup, SameButReplies}
 use Rattle.failstop.proofs.Matching.{facts-pass}
-use Rattle.failstop.proofs.Simulation.{signed}
+use Rattle.laws.proofs.Verdict.{signed}
 use Rattle.failstop.proofs.Arrivals.{Going, run-sendable, Owned, arrivals-later}
 use Rattle.failstop.proofs.Replica.{run-is-machine}
 use Rattle.failstop.proofs.Order.{machine-rising, signed-rising}

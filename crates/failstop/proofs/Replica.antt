@@ -16,7 +16,8 @@ use Rattle.laws.proofs.Lists.{no-member}
 use Rattle.laws.proofs.Machine.{machine-from-new, machine-none}
 use Rattle.laws.proofs.Accepted.{Made}
 use Rattle.failstop.specs.Demand3.{toGroup}
-use Rattle.failstop.proofs.Simulation.{signed, mine}
+use Rattle.laws.proofs.Verdict.{signed}
+use Rattle.failstop.proofs.Simulation.{mine}
 use Rattle.failstop.proofs.Arrivals.{Going, run-pending, arrivals-loose}
 use Rattle.failstop.proofs.Runs.{Underway, run-matched}
 use Rattle.failstop.proofs.Closing.{run-empty}

@@ -3,7 +3,7 @@
 use Prim.Native.Nat.{ℕ, _+_, _<_}
 use mathlib.Core.Path.{_≡_, refl, sym, _∙_, ap}
 use mathlib.Core.Bool.{true, false, not}
-use mathlib.Core.List.{List, [], _∷_, _++_, map, map-map, map-append, List·Memᴰ, Memᴰ·map, append-assoc}
+use mathlib.Core.List.{List, [], _∷_, _++_, map-append, List·Memᴰ, Memᴰ·map, append-assoc}
 use native.Mathlib.Omega.{arith}
 use lib.Dec.{eqb}
 use borrow.Author.Tests.{eqb-true, eq-eqb}
@@ -11,15 +11,16 @@ use Rattle.record.specs.declared.clock.Timestamp.{Timestamp}
 use Rattle.record.specs.declared.clock.LocalTime.{LocalTime}
 use Rattle.record.specs.declared.request.Request.{Request}
 use Rattle.record.specs.declared.message.Message.{Message}
-use Rattle.rules.specs.Lists.{keep, upTo}
-use Rattle.rules.specs.Batch.{Store, Effect, follow, failed, Verdict, reads, agreed, dissent, verdictOf, replyTo, haltTo, carryOut, handle}
+use Rattle.rules.specs.Lists.{keep}
+use Rattle.rules.specs.Batch.{Store, Effect, follow, handle}
 use Rattle.rules.specs.declared.Settings.{Settings}
 use Rattle.rules.specs.Replica.{State, stamped, requestsOf, ofGroup, groupTimestamp, batchOf, others, isStable, inBatch, withPending, withStore, handleBatch, visits}
-use Rattle.rules.specs.Machine.{nobody, decide, react, signedBy}
+use Rattle.rules.specs.Machine.{signedBy}
 use Rattle.rules.specs.declared.Pending.{Pending}
 use Rattle.question.proofs.Tests.{case}
 use Rattle.laws.proofs.Lists.{keep-in, in-keep, keep-none, keep-all, keep-append, map-keep, map-in}
 use Rattle.laws.proofs.Least.{stable-hit, batchAt-in, batchAt-group, others-other}
+use Rattle.laws.proofs.Verdict.{signed, handle-owner, handle-guest}
 use Rattle.laws.proofs.Visits.{visits-all}
 use Rattle.laws.proofs.Keeps.{Keeps, batch-keeps}
 use Rattle.laws.proofs.Owes.{handle-sent}
@@ -33,39 +34,12 @@ use Rattle.failstop.specs.Demand3.{toGroup}
 abbrev pub ahead : {S : Type 0} → List Message → Effect S → Effect S
 ahead sent e = record { state = e .state; sent = sent ++ e .sent }
 
--- the machine's messages as a replica sends them
-abbrev pub signed : {S : Type 0} → ℕ → Effect S → Effect S
-signed me e = record { state = e .state; sent = map (signedBy me) (e .sent) }
-
 -- to the owner, one sending after another
 pub ahead-then : (owner : ℕ) (a b : List Message) {x y : Effect Store} (z : Effect Store)
     → x ≡ ahead (toGroup owner a) y → y ≡ ahead (toGroup owner b) z → x ≡ ahead (toGroup owner (a ++ b)) z
 ahead-then owner a b z p q =
     p ∙ ap (ahead (toGroup owner a)) q
     ∙ rw (keep-append (λ (m : Message). eqb (m .group) owner) a b, append-assoc (toGroup owner a) (toGroup owner b) (z .sent))
-
--- ── one batch ──
-
--- a replica handles the owner's batch as the machine does
-handle-owner : (u : Settings) (me : ℕ) (t : Timestamp) (batch : List Request) (s : Store)
-    → handle u me (u .owner) t batch s ≡ signed me (react (u .k) (u .owner) t batch s)
-unfolding handle react
-handle-owner u me t batch s = go (verdictOf (u .k) batch)
-  where
-    own : eqb (u .owner) (u .owner) ≡ true
-    own = eq-eqb (u .owner) (u .owner) refl
-
-    go : (v : Verdict) → carryOut u me (u .owner) t batch s v ≡ signed me (decide (u .k) (u .owner) t batch s v)
-    go reads = rw (map-map (signedBy me) (replyTo s nobody) batch)
-    go (agreed r) = case (failed s) (λ f. rw (own, f)) (λ f. rw (own, f))
-    go dissent = case (failed s) (λ f. rw (own, f)) (λ f. rw (own, f, map-map (signedBy me) (haltTo (u .owner) nobody t) (upTo (u .k + 1))))
-
--- another group's batch leaves the store
-handle-guest : (u : Settings) (me group : ℕ) (t : Timestamp) (batch : List Request) (s : Store) → eqb group (u .owner) ≡ false
-    → handle u me group t batch s .state ≡ s
-unfolding handle
-handle-guest u me group t batch s e =
-    elim (verdictOf (u .k) batch) as (λ v. carryOut u me group t batch s v .state ≡ s) [ reads ↦ refl | agreed r ↦ rw e | dissent ↦ rw e ]
 
 -- ── the owner's pending requests ──
 

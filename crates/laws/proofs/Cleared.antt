@@ -1,5 +1,5 @@
 -- Up to which timestamp every pending batch of a group is stable, and that handling a stable batch does not change it.
-use Prim.Native.Nat.{ℕ, _≤_}
+use Prim.Native.Nat.{ℕ}
 use mathlib.Core.Path.{_≡_, refl, sym, ap}
 use mathlib.Core.Logic.{⊎-elim}
 use mathlib.Core.Bool.{true, false, not, _&&_}

@@ -15,7 +15,7 @@ use Rattle.rules.specs.Lists.{keep}
 use Rattle.rules.specs.Replica.{State, Stepped, stamped, ofGroup, groupTimestamp, inBatch, batchAt, batchOf, others, isStable, handleBatch, visit, visits, atTime, stepped, step}
 use Rattle.rules.specs.declared.Pending.{Pending}
 use Rattle.question.proofs.Tests.{case, true-not-false, both, within-true, in-within}
-use Rattle.laws.specs.Handled.{cleared, StableUpTo, handledIn, handled}
+use Rattle.laws.specs.Handled.{cleared, StableUpTo, clearedOf, handledIn, handled}
 use Rattle.laws.proofs.Lists.{same-test, keep-in, in-keep, keep-none, keep-all, keep-both, keep-keep, keep-same}
 use Rattle.laws.proofs.Least.{stable-some, batchAt-in, in-batch, others-fewer}
 use Rattle.laws.proofs.Occurring.{same-timestamp}
@@ -24,10 +24,6 @@ use Rattle.laws.proofs.Step.{step-accepted}
 use Rattle.laws.proofs.Cleared.{cleared-in, in-cleared, batch-cleared, batch-uncleared, same-cleared, others-cleared}
 
 -- ── the visit of one group ──
-
--- of the group, and cleared
-abbrev pub clearedOf : ℕ → LocalTime → List Pending → ℕ → Pending → Bool
-clearedOf delta now pending group p = ofGroup group p && cleared delta now pending group (p .request .timestamp)
 
 -- it takes off what is cleared, and leaves the rest in its order
 pub visit-exactly : (group : ℕ) (now : LocalTime) (looks : ℕ) (s : State) → length (s .pending) ≤ looks
@@ -70,14 +66,14 @@ visit-exactly group now (suc looks) s h = case (isStable delta now (batchOf grou
 
 -- ── the visits of groups 1 to n ──
 
-none-within : (x : ℕ) → within 1 0 x ≡ false
+pub none-within : (x : ℕ) → within 1 0 x ≡ false
 none-within x = case (within 1 0 x) (λ e. absurd (omega (arith, within-true 1 0 x e .0, within-true 1 0 x e .1))) (λ e. e)
 
-past-within : (n : ℕ) → within 1 n (suc n) ≡ false
+pub past-within : (n : ℕ) → within 1 n (suc n) ≡ false
 past-within n = case (within 1 n (suc n)) (λ e. absurd (omega (arith, within-true 1 n (suc n) e .1))) (λ e. e)
 
 -- n + 1 is the one more
-next-within : (n x : ℕ) → eqb x (suc n) ≡ false → within 1 (suc n) x ≡ within 1 n x
+pub next-within : (n x : ℕ) → eqb x (suc n) ≡ false → within 1 (suc n) x ≡ within 1 n x
 next-within n x e = same-test _ _
     (λ a. let h = within-true 1 (suc n) x a in in-within 1 n x (h .0) (omega (arith, h .1, eqb-false x (suc n) e)))
     (λ a. let h = within-true 1 n x a in in-within 1 (suc n) x (h .0) (omega (arith, h .1)))

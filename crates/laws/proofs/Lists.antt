@@ -3,7 +3,7 @@ use Prim.Native.Nat.{ℕ, zero, suc, _+_, _≤_, _<_}
 use mathlib.Core.Path.{_≡_, refl, sym, _∙_, ap}
 use mathlib.Core.Logic.{_⊎_, inl, inr, ⊎-elim}
 use mathlib.Core.Bool.{Bool, true, false, not, cond, _&&_, _||_, and-eq-true-iff}
-use mathlib.Core.List.{List, [], _∷_, _++_, map, List·Memᴰ, List·Memᴰ·head, List·Memᴰ·tail, List·Memᴰ·cases-cons, List·Memᴰ·not-nil, List·Memᴰ·append-cases, List·Memᴰ·eq-of-singleton, Memᴰ·append-left, Memᴰ·append-right}
+use mathlib.Core.List.{List, [], _∷_, _++_, map, flatMap, append-assoc, List·Memᴰ, List·Memᴰ·head, List·Memᴰ·tail, List·Memᴰ·cases-cons, List·Memᴰ·not-nil, List·Memᴰ·append-cases, List·Memᴰ·eq-of-singleton, Memᴰ·append-left, Memᴰ·append-right}
 use native.Mathlib.Omega.{arith}
 use lib.Dec.{eqb}
 use lib.ListN.{length, length-append}
@@ -115,6 +115,30 @@ module _ {A B : Type 0} (f : A → B) where
   pub map-keep : (p : B → Bool) (l : List A) → keep p (map f l) ≡ map f (keep (λ x. p (f x)) l)
   map-keep p [] = refl
   map-keep p (x ∷ l) = case (p (f x)) (λ e. rw e (ap (λ t. f x ∷ t) (map-keep p l))) (λ e. rw e (map-keep p l))
+
+module _ {A B : Type 0} where
+  pub flat-append : (f : A → List B) (a b : List A) → flatMap f (a ++ b) ≡ flatMap f a ++ flatMap f b
+  unfolding flatMap
+  flat-append f [] b = refl
+  flat-append f (x ∷ a) b = rw (flat-append f a b) (sym (append-assoc (f x) (flatMap f a) (flatMap f b)))
+
+  pub flat-same : (f g : A → List B) (l : List A) → ((x : A) → List·Memᴰ x l → f x ≡ g x) → flatMap f l ≡ flatMap g l
+  unfolding flatMap
+  flat-same f g [] h = refl
+  flat-same f g (x ∷ l) h = rw (h x (List·Memᴰ·head refl), flat-same f g l (λ y m. h y (List·Memᴰ·tail m)))
+
+  pub flat-in : (f : A → List B) (l : List A) {y : B} → List·Memᴰ y (flatMap f l) → (x : A) × List·Memᴰ x l × List·Memᴰ y (f x)
+  unfolding flatMap
+  flat-in f [] m = absurd (List·Memᴰ·not-nil m)
+  flat-in f (x ∷ l) {y} m = ⊎-elim
+      (λ (i : List·Memᴰ y (f x)). (x, List·Memᴰ·head refl, i))
+      (λ (i : List·Memᴰ y (flatMap f l)). let r = flat-in f l i in (r .0, List·Memᴰ·tail (r .1), r .2))
+      (List·Memᴰ·append-cases (f x) m)
+
+  pub in-flat : (f : A → List B) (l : List A) {x : A} {y : B} → List·Memᴰ x l → List·Memᴰ y (f x) → List·Memᴰ y (flatMap f l)
+  unfolding flatMap
+  in-flat f l {y = y} (List·Memᴰ·head {xs = xs} q) i = Memᴰ·append-left (flatMap f xs) (rw q at i)
+  in-flat f l (List·Memᴰ·tail {x = x} {xs = xs} m) i = Memᴰ·append-right (f x) (in-flat f xs m i)
 
 module _ {A : Type 0} (p : A → Bool) where
   pub every-in : (l : List A) → every p l ≡ true → (x : A) → List·Memᴰ x l → p x ≡ true

@@ -1,12 +1,13 @@
 -- What a batch amounts to, and what comes of it, at a replica and in the machine: the four cases that every proof on a batch goes by.
+-- The owner's comes to the same at both.
 use Prim.Native.Nat.{ℕ, _+_}
 use mathlib.Core.Path.{_≡_, refl}
 use mathlib.Core.Bool.{true, false, not, _&&_}
-use mathlib.Core.List.{List, [], _∷_, map, List·Memᴰ, List·Memᴰ·head, List·Memᴰ·not-nil}
+use mathlib.Core.List.{List, [], _∷_, map, map-map, List·Memᴰ, List·Memᴰ·head, List·Memᴰ·not-nil}
 use native.Mathlib.Omega.{arith}
 use lib.Dec.{eqb}
 use lib.ListN.{length, length-set}
-use borrow.Author.Tests.{eqb-true, not-true}
+use borrow.Author.Tests.{eqb-true, eq-eqb, not-true}
 use Rattle.record.specs.Kind.{isWrite, sameWrite}
 use Rattle.record.specs.declared.clock.Timestamp.{Timestamp}
 use Rattle.record.specs.declared.request.Request.{Request}
@@ -14,7 +15,7 @@ use Rattle.record.specs.declared.message.Message.{Message}
 use Rattle.rules.specs.Lists.{every, upTo}
 use Rattle.rules.specs.Batch.{Store, Effect, still, failed, perform, fail, allReads, allSame, allSendersDiffer, unanimous, firstOf, Verdict, reads, agreed, dissent, verdictOf, replyTo, haltTo, haltAll, mayChange, carryOut, handle}
 use Rattle.rules.specs.declared.Settings.{Settings}
-use Rattle.rules.specs.Machine.{nobody, decide, react}
+use Rattle.rules.specs.Machine.{nobody, decide, react, signedBy}
 use Rattle.question.proofs.Tests.{case, both}
 use Rattle.laws.proofs.Lists.{map-in}
 
@@ -107,3 +108,30 @@ react-view k owner t batch s = go (judged k batch)
     go (all-reads a) = answered a
     go (all-agreed a) = case (failed s) (λ f. rw f passed) (λ f. rw f (performed a refl f))
     go no-agreement = case (failed s) (λ f. rw f passed) (λ f. rw f (failing refl f))
+
+-- ── at a replica as in the machine ──
+
+-- the machine's messages as a replica sends them
+abbrev pub signed : {S : Type 0} → ℕ → Effect S → Effect S
+signed me e = record { state = e .state; sent = map (signedBy me) (e .sent) }
+
+-- a replica handles the owner's batch as the machine does
+pub handle-owner : (u : Settings) (me : ℕ) (t : Timestamp) (batch : List Request) (s : Store)
+    → handle u me (u .owner) t batch s ≡ signed me (react (u .k) (u .owner) t batch s)
+unfolding handle react
+handle-owner u me t batch s = go (verdictOf (u .k) batch)
+  where
+    own : eqb (u .owner) (u .owner) ≡ true
+    own = eq-eqb (u .owner) (u .owner) refl
+
+    go : (v : Verdict) → carryOut u me (u .owner) t batch s v ≡ signed me (decide (u .k) (u .owner) t batch s v)
+    go reads = rw (map-map (signedBy me) (replyTo s nobody) batch)
+    go (agreed r) = case (failed s) (λ f. rw (own, f)) (λ f. rw (own, f))
+    go dissent = case (failed s) (λ f. rw (own, f)) (λ f. rw (own, f, map-map (signedBy me) (haltTo (u .owner) nobody t) (upTo (u .k + 1))))
+
+-- another group's batch leaves the store
+pub handle-guest : (u : Settings) (me group : ℕ) (t : Timestamp) (batch : List Request) (s : Store) → eqb group (u .owner) ≡ false
+    → handle u me group t batch s .state ≡ s
+unfolding handle
+handle-guest u me group t batch s e =
+    elim (verdictOf (u .k) batch) as (λ v. carryOut u me group t batch s v .state ≡ s) [ reads ↦ refl | agreed r ↦ rw e | dissent ↦ rw e ]

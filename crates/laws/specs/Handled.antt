@@ -1,14 +1,18 @@
 -- What a step handles, said without its loop.
 use Prim.Native.Nat.{ℕ, _≤_}
 use mathlib.Core.Path.{_≡_}
-use mathlib.Core.Bool.{Bool, true, _&&_}
-use mathlib.Core.List.{List, List·Memᴰ}
-use lib.Dec.{leb}
+use mathlib.Core.Bool.{Bool, true, _&&_, _||_}
+use mathlib.Core.List.{List, flatMap, List·Memᴰ}
+use lib.Dec.{leb, ltb}
 use Rattle.question.specs.Question.{within}
 use Rattle.record.specs.declared.clock.Timestamp.{Timestamp}
 use Rattle.record.specs.declared.clock.LocalTime.{LocalTime}
-use Rattle.rules.specs.Lists.{keep, every}
-use Rattle.rules.specs.Replica.{State, ofGroup, batchAt, isStable}
+use Rattle.record.specs.declared.request.Request.{Request}
+use Rattle.record.specs.declared.message.Message.{Message}
+use Rattle.rules.specs.Lists.{keep, every, upTo}
+use Rattle.rules.specs.Batch.{Store, handle}
+use Rattle.rules.specs.Replica.{State, requestsOf, ofGroup, batchAt, isStable}
+use Rattle.rules.specs.Machine.{occurring, reactAll}
 use Rattle.rules.specs.declared.Pending.{Pending}
 
 -- ── which requests ──
@@ -25,7 +29,11 @@ StableUpTo delta now pending group t =
     (p : Pending) → List·Memᴰ p pending → p .request .group ≡ group → p .request .timestamp .0 ≤ t .0
     → isStable delta now (batchAt group (p .request .timestamp) pending) ≡ true
 
--- its group is one of 1 to n, and its batch is reached
+-- the visit of the group handles it
+abbrev pub clearedOf : ℕ → LocalTime → List Pending → ℕ → Pending → Bool
+clearedOf delta now pending group p = ofGroup group p && cleared delta now pending group (p .request .timestamp)
+
+-- the visits of groups 1 to n handle it
 abbrev pub handledIn : ℕ → State → LocalTime → Pending → Bool
 handledIn n s now p =
     within 1 n (p .request .group) && cleared (s .settings .delta) now (s .pending) (p .request .group) (p .request .timestamp)
@@ -33,3 +41,39 @@ handledIn n s now p =
 -- a step at this time handles it
 abbrev pub handled : State → LocalTime → Pending → Bool
 handled s now p = handledIn (s .settings .groups) s now p
+
+-- ── in which store, with which messages ──
+
+-- the owner's requests that the visits of groups 1 to n handle
+abbrev pub ownHandled : ℕ → State → LocalTime → List Request
+ownHandled n s now = requestsOf (keep (λ p. ofGroup (s .settings .owner) p && handledIn n s now p) (s .pending))
+
+-- handled in the visit of a lesser group, or with a lesser timestamp
+abbrev pub precedes : ℕ → Timestamp → Pending → Bool
+precedes group t p = ltb (p .request .group) group || ltb (p .request .timestamp .0) (t .0)
+
+-- the owner's requests that a step handles before it comes to a group's batch with a timestamp
+abbrev pub ownBefore : State → LocalTime → ℕ → Timestamp → List Request
+ownBefore s now group t =
+    requestsOf (keep (λ p. ofGroup (s .settings .owner) p && handledIn group s now p && precedes group t p) (s .pending))
+
+-- what the owner's requests leave of the store, each timestamp's as one batch
+abbrev pub leftBy : State → List Request → Store
+leftBy s requests = reactAll (s .settings .k) (s .settings .owner) requests (occurring requests) (s .store) .state
+
+-- the store when that batch is handled
+abbrev pub storeWhen : State → LocalTime → ℕ → Timestamp → Store
+storeWhen s now group t = leftBy s (ownBefore s now group t)
+
+-- the messages that are sent for it
+abbrev pub sentFor : State → LocalTime → ℕ → Timestamp → List Message
+sentFor s now group t = handle (s .settings) (s .number) group t (requestsOf (batchAt group t (s .pending))) (storeWhen s now group t) .sent
+
+-- those of the visit of a group, by rising timestamp
+abbrev pub sentIn : State → LocalTime → ℕ → List Message
+sentIn s now group =
+    flatMap (sentFor s now group) (occurring (requestsOf (keep (clearedOf (s .settings .delta) now (s .pending) group) (s .pending))))
+
+-- those of a step, by ascending group
+abbrev pub sentBy : State → LocalTime → List Message
+sentBy s now = flatMap (sentIn s now) (upTo (s .settings .groups))

@@ -1,0 +1,91 @@
+-- Whose each message of a step is: a handled batch's, in the store at that point. So a reply has the value of its variable then.
+use Prim.Native.Nat.{ℕ}
+use mathlib.Core.Path.{_≡_, refl, sym, _∙_, ap}
+use mathlib.Core.Logic.{_↔_}
+use mathlib.Core.Bool.{true}
+use mathlib.Core.List.{List·Memᴰ}
+use native.Mathlib.Omega.{arith}
+use borrow.Author.Tests.{eqb-true}
+use Rattle.question.specs.Question.{within}
+use Rattle.record.specs.Kind.{reply}
+use Rattle.record.specs.declared.clock.Timestamp.{Timestamp}
+use Rattle.record.specs.declared.clock.LocalTime.{LocalTime}
+use Rattle.record.specs.declared.request.Request.{Request}
+use Rattle.record.specs.declared.message.Message.{Message}
+use Rattle.rules.specs.Lists.{upTo}
+use Rattle.rules.specs.Batch.{replyTo}
+use Rattle.rules.specs.Replica.{State, requestsOf, batchAt, visits, atTime}
+use Rattle.rules.specs.Machine.{occurring}
+use Rattle.rules.specs.declared.Pending.{Pending}
+use Rattle.question.proofs.Tests.{both, within-true, in-within}
+use Rattle.laws.specs.Handled.{cleared, handled, storeWhen, sentFor, sentIn, sentBy}
+use Rattle.laws.proofs.Lists.{map-in, flat-in, in-flat, upTo-in, in-upTo}
+use Rattle.laws.proofs.Least.{batchAt-in}
+use Rattle.laws.proofs.Verdict.{Said, replied, halted, handled-said, handle-view}
+use Rattle.laws.proofs.Occurring.{same-timestamp, occurring-in, in-occurring}
+use Rattle.laws.proofs.Visited.{clearedRequests, request-cleared, cleared-request}
+use Rattle.laws.proofs.Sent.{step-sends}
+
+module _ (s : State) (now : LocalTime) where
+  -- a message for the batch of a handled request
+  abbrev pub ForHandled : Message → Type 0
+  ForHandled m =
+      (p : Pending) × List·Memᴰ p (s .pending) × (handled s now p ≡ true) × List·Memᴰ m (sentFor s now (p .request .group) (p .request .timestamp))
+
+  -- handled is a batch's group and timestamp
+  same-handled : (p q : Pending) → p .request .group ≡ q .request .group → p .request .timestamp ≡ q .request .timestamp → handled s now p ≡ handled s now q
+  same-handled p q of at = rw (of, at)
+
+  -- of a timestamp that the visit of a group comes to
+  visit-message : (m : Message) (g : ℕ) (t : Timestamp) → List·Memᴰ g (upTo (s .settings .groups))
+      → List·Memᴰ t (occurring (clearedRequests (s .settings .delta) now g (s .pending))) → List·Memᴰ m (sentFor s now g t) → ForHandled m
+  visit-message m g t i j k =
+      let r = occurring-in (clearedRequests (s .settings .delta) now g (s .pending)) j in
+      let p = request-cleared (s .settings .delta) now g (s .pending) (r .1) in
+      let of = eqb-true (p .0 .request .group) g (p .2) in
+      let at : p .0 .request .timestamp ≡ t = ap (λ (q : Request). q .timestamp) (sym (p .4)) ∙ r .2 in
+      let bounds = upTo-in (s .settings .groups) i in
+      (p .0, p .1, rw (of, in-within 1 (s .settings .groups) g (bounds .0) (bounds .1)) (p .3), rw (of, at) k)
+
+  there : (m : Message) → List·Memᴰ m (sentBy s now) → ForHandled m
+  there m i =
+      let g = flat-in (sentIn s now) (upTo (s .settings .groups)) i in
+      let t = flat-in (sentFor s now (g .0)) (occurring (clearedRequests (s .settings .delta) now (g .0) (s .pending))) (g .2) in
+      visit-message m (g .0) (t .0) (g .1) (t .1) (t .2)
+
+  back : (m : Message) → ForHandled m → List·Memᴰ m (sentBy s now)
+  back m f =
+      let g = f .0 .request .group in
+      let h = both (within 1 (s .settings .groups) g) (cleared (s .settings .delta) now (s .pending) g (f .0 .request .timestamp)) (f .2) in
+      let bounds = within-true 1 (s .settings .groups) g (h .0) in
+      let r = cleared-request (s .settings .delta) now g (s .pending) (f .1) refl (h .1) in
+      in-flat (sentIn s now) (upTo (s .settings .groups)) (in-upTo (s .settings .groups) g (bounds .0) (bounds .1))
+      (in-flat (sentFor s now g) _ (in-occurring (clearedRequests (s .settings .delta) now g (s .pending)) r) (f .3))
+
+  -- the messages are exactly those of the handled batches
+  pub sent-exactly : (m : Message) → List·Memᴰ m (visits (s .settings .groups) now (atTime now s) .sent) ↔ ForHandled m
+  sent-exactly m = rw (step-sends s now) (there m, back m)
+
+  -- a reply answers a handled request, with the value of its variable when its batch is handled
+  pub reply-value : (m : Message) → List·Memᴰ m (visits (s .settings .groups) now (atTime now s) .sent) → m .kind ≡ reply
+      → (p : Pending) × List·Memᴰ p (s .pending) × (handled s now p ≡ true)
+      × (m ≡ replyTo (storeWhen s now (p .request .group) (p .request .timestamp)) (s .number) (p .request))
+  reply-value m i kind =
+      let f = sent-exactly m .0 i in
+      answer (f .0) (f .2) (handled-said (s .settings .k) (s .settings .owner) (s .number) _ _ _ _ (handle-view (s .settings) (s .number) _ _ _ _) m (f .3))
+    where
+      answer : (p : Pending) → handled s now p ≡ true
+          → Said (s .settings .k) (s .settings .owner) (s .number) (p .request .group) (p .request .timestamp)
+          (requestsOf (batchAt (p .request .group) (p .request .timestamp) (s .pending))) (storeWhen s now (p .request .group) (p .request .timestamp)) m
+          → (q : Pending) × List·Memᴰ q (s .pending) × (handled s now q ≡ true)
+          × (m ≡ replyTo (storeWhen s now (q .request .group) (q .request .timestamp)) (s .number) (q .request))
+      answer p h (replied r j e) =
+          let q = map-in (λ (x : Pending). x .request) (batchAt (p .request .group) (p .request .timestamp) (s .pending)) j in
+          let a = batchAt-in (p .request .group) (p .request .timestamp) (s .pending) (q .1) in
+          let at : q .0 .request .timestamp ≡ p .request .timestamp = same-timestamp (a .2) in (
+            q .0,
+            a .0,
+            same-handled (q .0) p (a .1) at ∙ h,
+            e ∙ ap (replyTo (storeWhen s now (p .request .group) (p .request .timestamp)) (s .number)) (q .2) ∙ rw (a .1, at),
+          )
+      answer p h (halted process j e) = absurd (omega (arith, kind, ap (λ (x : Message). x .kind) e))
