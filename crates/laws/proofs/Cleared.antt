@@ -2,7 +2,7 @@
 use Prim.Native.Nat.{ℕ}
 use mathlib.Core.Path.{_≡_, refl, sym, ap}
 use mathlib.Core.Logic.{⊎-elim}
-use mathlib.Core.Bool.{true, false, not, _&&_}
+use mathlib.Core.Bool.{true, false, not}
 use mathlib.Core.List.{List, List·Memᴰ, List·Memᴰ·not-nil}
 use native.Mathlib.Omega.{arith}
 use lib.Dec.{leb}
@@ -13,7 +13,7 @@ use Rattle.rules.specs.Lists.{keep}
 use Rattle.rules.specs.Replica.{stamped, ofGroup, groupTimestamp, inBatch, batchAt, batchOf, others, isStable}
 use Rattle.rules.specs.declared.Pending.{Pending}
 use Rattle.question.proofs.Tests.{case, true-not-false, both}
-use Rattle.laws.specs.Handled.{cleared, StableUpTo}
+use Rattle.laws.specs.Handled.{notAfter, batchStable, cleared, StableUpTo}
 use Rattle.laws.proofs.Lists.{same-test, keep-in, in-keep, every-in, in-every}
 use Rattle.laws.proofs.Least.{batchAt-in, in-batch, batchAt-group, batch-hit, batch-least, others-in, others-whole}
 use Rattle.laws.proofs.Occurring.{same-timestamp}
@@ -25,14 +25,14 @@ module _ (delta : ℕ) (now : LocalTime) (pending : List Pending) (group : ℕ) 
   pub cleared-in : (t : Timestamp) → cleared delta now pending group t ≡ true → StableUpTo delta now pending group t
   unfolding cleared
   cleared-in t e p i of low =
-      every-in (λ q. isStable delta now (batchAt group (q .request .timestamp) pending)) _ e p
-      (in-keep (λ q. ofGroup group q && leb (q .request .timestamp .0) (t .0)) pending i
-      (rw (eq-eqb (p .request .group) group of) (le-leb (p .request .timestamp .0) (t .0) low)))
+      every-in (batchStable delta now pending group) (keep (notAfter group t) pending) e p
+      (in-keep (notAfter group t) pending i
+      (rw (eq-eqb (p .request .group) group of) (le-leb (p .request .timestamp .0) (t .0) (omega arith))))
 
   pub in-cleared : (t : Timestamp) → StableUpTo delta now pending group t → cleared delta now pending group t ≡ true
   unfolding cleared
-  in-cleared t h = in-every (λ q. isStable delta now (batchAt group (q .request .timestamp) pending)) _ (λ p i.
-      let a = keep-in (λ q. ofGroup group q && leb (q .request .timestamp .0) (t .0)) pending i in
+  in-cleared t h = in-every (batchStable delta now pending group) (keep (notAfter group t) pending) (λ p i.
+      let a = keep-in (notAfter group t) pending i in
       let b = both (ofGroup group p) (leb (p .request .timestamp .0) (t .0)) (a .1) in
       h p (a .0) (eqb-true (p .request .group) group (b .0)) (leb-true (p .request .timestamp .0) (t .0) (b .1)))
 

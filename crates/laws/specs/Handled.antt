@@ -17,11 +17,17 @@ use Rattle.rules.specs.declared.Pending.{Pending}
 
 -- ── which requests ──
 
+-- of a group, with a timestamp or a lesser one
+abbrev pub notAfter : ℕ → Timestamp → Pending → Bool
+notAfter group t p = ofGroup group p && leb (p .request .timestamp .0) (t .0)
+
+-- the batch of the group with its timestamp is stable
+abbrev pub batchStable : ℕ → LocalTime → List Pending → ℕ → Pending → Bool
+batchStable delta now pending group p = isStable delta now (batchAt group (p .request .timestamp) pending)
+
 -- every pending batch of the group, up to a timestamp, is stable
 unfoldable pub cleared : ℕ → LocalTime → List Pending → ℕ → Timestamp → Bool
-cleared delta now pending group t =
-    every (λ p. isStable delta now (batchAt group (p .request .timestamp) pending))
-    (keep (λ p. ofGroup group p && leb (p .request .timestamp .0) (t .0)) pending)
+cleared delta now pending group t = every (batchStable delta now pending group) (keep (notAfter group t) pending)
 
 -- the same, said of each request
 abbrev pub StableUpTo : ℕ → LocalTime → List Pending → ℕ → Timestamp → Type 0
