@@ -1,11 +1,11 @@
 -- A group's batches by rising timestamp: what they leave of the store, and what is sent for each.
 use Prim.Native.Nat.{ℕ, _<_}
-use mathlib.Core.Path.{_≡_, _∙_, ap}
-use mathlib.Core.Bool.{Bool, cond, not}
+use mathlib.Core.Path.{_≡_, ap}
+use mathlib.Core.Bool.{cond}
 use mathlib.Core.List.{List, [], _++_, flatMap, List·Memᴰ}
 use native.Mathlib.Omega.{arith}
-use lib.Dec.{eqb, ltb}
-use borrow.Author.Tests.{eqb-true, lt-ltb, le-ltb}
+use lib.Dec.{eqb}
+use borrow.Author.Tests.{eqb-true}
 use Rattle.record.specs.declared.clock.Timestamp.{Timestamp}
 use Rattle.record.specs.declared.request.Request.{Request}
 use Rattle.record.specs.declared.message.Message.{Message}
@@ -15,15 +15,11 @@ use Rattle.rules.specs.Replica.{stamped, least}
 use Rattle.rules.specs.Machine.{occurring}
 use Rattle.rules.specs.declared.Settings.{Settings}
 use Rattle.question.proofs.Tests.{case}
-use Rattle.laws.proofs.Lists.{keep-in, in-keep, keep-none, keep-keep, keep-swap, flat-same}
-use Rattle.laws.proofs.Least.{least-below, least-hit}
+use Rattle.laws.proofs.Lists.{flat-same}
 use Rattle.laws.proofs.Verdict.{handle-owner, handle-guest}
 use Rattle.laws.proofs.Occurring.{occurring-in, occurring-least, leastBatch, restOf, rest-later}
-use Rattle.laws.proofs.Machine.{least-same, rest-same, machineFrom, machine-none, machine-first}
-
--- the requests with lesser timestamps
-abbrev pub earlierThan : Timestamp → List Request → List Request
-earlierThan t bag = keep (λ r. ltb (r .timestamp .0) (t .0)) bag
+use Rattle.laws.proofs.Replies.{before, before-least, before-first}
+use Rattle.laws.proofs.Machine.{rest-same, machineFrom, machine-none, machine-first}
 
 -- what a group's requests leave of the store: only the owner's change it
 unfoldable pub leaves : Settings → ℕ → List Request → Store → Store
@@ -40,7 +36,7 @@ module _ (u : Settings) (me group : ℕ) where
 
   -- what is sent for a timestamp, in the store that the lesser ones leave
   abbrev pub messagesAt : List Request → Store → Timestamp → List Message
-  messagesAt bag s t = handle u me group t (keep (stamped t) bag) (leaves u group (earlierThan t bag) s) .sent
+  messagesAt bag s t = handle u me group t (keep (stamped t) bag) (leaves u group (before t bag) s) .sent
 
   -- a group's requests, one timestamp after another
   abbrev pub oneByOne : List Request → Store → Effect Store
@@ -50,52 +46,29 @@ module _ (u : Settings) (me group : ℕ) where
   unfolding flatMap
   one-by-one-none s = rw (leaves-none u group s)
 
-  leaves-first : (bag : List Request) (s : Store) {q : Request} → List·Memᴰ q bag
-      → leaves u group bag s ≡ leaves u group (restOf bag) (handleFirst bag s .state)
-  unfolding leaves
-  leaves-first bag s m = case (eqb group (u .owner))
-      (λ o. rw (o, eqb-true group (u .owner) o, handle-owner u me (least bag) (leastBatch bag) s, machine-first (u .k) (u .owner) bag s m))
-      (λ o. rw (o, handle-guest u me group (least bag) (leastBatch bag) s o))
+  module _ (bag : List Request) (s : Store) {q : Request} (m : List·Memᴰ q bag) where
+    leaves-first : leaves u group bag s ≡ leaves u group (restOf bag) (handleFirst bag s .state)
+    unfolding leaves
+    leaves-first = case (eqb group (u .owner))
+        (λ o. rw (o, eqb-true group (u .owner) o, handle-owner u me (least bag) (leastBatch bag) s, machine-first (u .k) (u .owner) bag s m))
+        (λ o. rw (o, handle-guest u me group (least bag) (leastBatch bag) s o))
 
-  -- what is left when a timestamp past the least is reached
-  later-store : (bag : List Request) (s : Store) {q : Request} → List·Memᴰ q bag → (t : Timestamp) → least bag .0 < t .0
-      → leaves u group (earlierThan t bag) s ≡ leaves u group (earlierThan t (restOf bag)) (handleFirst bag s .state)
-  later-store bag s m t late = leaves-first (earlierThan t bag) s held ∙ rw (same, batch, rest)
-    where
-      hit : (r : Request) × List·Memᴰ r bag × (r .timestamp .0 ≡ least bag .0)
-      hit = least-hit bag m
+    -- past its least timestamp, what comes before t begins with the same batch
+    leaves-before : (t : Timestamp) → least bag .0 < t .0 → leaves u group (before t bag) s ≡ leaves u group (before t (restOf bag)) (handleFirst bag s .state)
+    unfolding leaves
+    leaves-before t late = case (eqb group (u .owner))
+        (λ o. rw (o, eqb-true group (u .owner) o, handle-owner u me (least bag) (leastBatch bag) s) (before-first (u .k) (u .owner) t bag s m late))
+        (λ o. rw (o, handle-guest u me group (least bag) (leastBatch bag) s o))
 
-      early : Request → Bool
-      early r = ltb (r .timestamp .0) (t .0)
-
-      held : List·Memᴰ (hit .0) (earlierThan t bag)
-      held = in-keep early bag (hit .1) (lt-ltb (hit .0 .timestamp .0) (t .0) (omega (arith, hit .2)))
-
-      same : least (earlierThan t bag) ≡ least bag
-      same = least-same (earlierThan t bag) bag held (hit .1)
-          (λ r i. least-below bag (keep-in early bag i .0))
-          (λ r i. omega (arith, least-below (earlierThan t bag) held, hit .2, least-below bag i))
-
-      batch : keep (stamped (least bag)) (earlierThan t bag) ≡ leastBatch bag
-      batch = keep-keep (stamped (least bag)) early bag
-          (λ r e. lt-ltb (r .timestamp .0) (t .0) (omega (arith, eqb-true (r .timestamp .0) (least bag .0) e)))
-
-      rest : keep (λ r. not (stamped (least bag) r)) (earlierThan t bag) ≡ earlierThan t (restOf bag)
-      rest = keep-swap (λ r. not (stamped (least bag) r)) early bag
-
-  -- the least timestamp, then the rest
-  pub one-by-one-first : (bag : List Request) (s : Store) {q : Request} → List·Memᴰ q bag
-      → oneByOne bag s ≡ follow (handleFirst bag s) (λ v. oneByOne (restOf bag) v)
-  unfolding flatMap
-  one-by-one-first bag s m = rw (leaves-first bag s m, occurring-least bag m, none, leaves-none u group s, messagesAt)
-      (ap (λ l. record { state = leaves u group (restOf bag) (handleFirst bag s .state); sent = handleFirst bag s .sent ++ l })
-      (flat-same _ _ (occurring (restOf bag)) later))
-    where
-      none : earlierThan (least bag) bag ≡ []
-      none = keep-none (λ r. ltb (r .timestamp .0) (least bag .0)) bag (λ r i. le-ltb (r .timestamp .0) (least bag .0) (least-below bag i))
-
-      later : (t : Timestamp) → List·Memᴰ t (occurring (restOf bag)) → messagesAt bag s t ≡ messagesAt (restOf bag) (handleFirst bag s .state) t
-      later t i =
-          let r = occurring-in (restOf bag) i in
-          let late : least bag .0 < t .0 = omega (arith, rest-later bag (r .1) .1, ap (λ (x : Timestamp). x .0) (r .2)) in
-          rw (rest-same bag t late, later-store bag s m t late, messagesAt)
+    -- the least timestamp, then the rest
+    pub one-by-one-first : oneByOne bag s ≡ follow (handleFirst bag s) (λ v. oneByOne (restOf bag) v)
+    unfolding flatMap
+    one-by-one-first = rw (leaves-first, occurring-least bag m, before-least bag, leaves-none u group s, messagesAt)
+        (ap (λ l. record { state = leaves u group (restOf bag) (handleFirst bag s .state); sent = handleFirst bag s .sent ++ l })
+        (flat-same _ _ (occurring (restOf bag)) later))
+      where
+        later : (t : Timestamp) → List·Memᴰ t (occurring (restOf bag)) → messagesAt bag s t ≡ messagesAt (restOf bag) (handleFirst bag s .state) t
+        later t i =
+            let r = occurring-in (restOf bag) i in
+            let late : least bag .0 < t .0 = omega (arith, rest-later bag (r .1) .1, ap (λ (x : Timestamp). x .0) (r .2)) in
+            rw (rest-same bag t late, leaves-before t late, messagesAt)

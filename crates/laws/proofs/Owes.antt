@@ -36,6 +36,7 @@ handle-sent u replica group t batch s of m i =
 -- that its handling sends, and none of them is left
 pub record Owed (now : LocalTime) (s t : State) (m : Message) : Type 0 where
   pub stable : isStable (s .settings .delta) now (batchAt (m .group) (m .timestamp) (s .pending)) ≡ true
+  -- which one it is, the law `sent-exactly` says
   pub store : Store
   pub sent : List·Memᴰ m (handle (s .settings) (s .number) (m .group) (m .timestamp) (requestsOf (batchAt (m .group) (m .timestamp) (s .pending))) store .sent)
   pub gone : batchAt (m .group) (m .timestamp) (t .pending) ≡ []

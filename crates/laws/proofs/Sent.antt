@@ -21,8 +21,9 @@ use Rattle.laws.specs.Handled.{cleared, clearedOf, handledIn, ownHandled
 use Rattle.laws.proofs.Lists.{keep-none, keep-both, keep-same, map-keep, flat-append, flat-same}
 use Rattle.laws.proofs.Keeps.{visits-keep}
 use Rattle.laws.proofs.Machine.{machineFrom}
+use Rattle.laws.proofs.Replies.{before}
 use Rattle.laws.proofs.Handled.{none-within, past-within, next-within, group-left, visits-exactly}
-use Rattle.laws.proofs.Batches.{earlierThan, leaves, messagesAt, oneByOne}
+use Rattle.laws.proofs.Batches.{leaves, messagesAt, oneByOne}
 use Rattle.laws.proofs.Visited.{clearedRequests, same-requests, batch-whole, occurring-cleared, outcome, visit-one-by-one}
 use Rattle.laws.proofs.Step.{step-accepted}
 
@@ -91,7 +92,7 @@ module _ (s : State) (now : LocalTime) where
   next-requests n = same-requests (s .settings .delta) now (suc n) (visits n now s .state .pending) (s .pending)
       (ap (keep (ofGroup (suc n))) (visits-exactly s now n) ∙ group-left s now n)
 
-  -- so it comes to this
+  -- so that is what comes of it, in the store that they leave
   visit-next : (n : ℕ) → visits n now s .state .store ≡ leftBy s (ownHandled n s now)
       → outcome (visit (suc n) now (length (visits n now s .state .pending)) (visits n now s .state))
       ≡ oneByOne (s .settings) (s .number) (suc n) (nextRequests n) (leftBy s (ownHandled n s now))
@@ -121,11 +122,11 @@ module _ (s : State) (now : LocalTime) where
 
   -- the store in which a batch of group n + 1 is handled
   next-store : (n : ℕ) (t : Timestamp)
-      → leaves (s .settings) (suc n) (earlierThan t (nextRequests n)) (leftBy s (ownHandled n s now))
+      → leaves (s .settings) (suc n) (before t (nextRequests n)) (leftBy s (ownHandled n s now))
       ≡ storeWhen s now (suc n) t
   next-store n t = rw early (store-next n (λ p. ltb (p .request .timestamp .0) (t .0)))
     where
-      early : earlierThan t (nextRequests n)
+      early : before t (nextRequests n)
           ≡ requestsOf (keep (λ p. nextTest n p && ltb (p .request .timestamp .0) (t .0)) (s .pending))
       early =
           map-keep (λ (p : Pending). p .request) (λ r. ltb (r .timestamp .0) (t .0)) (keep (nextTest n) (s .pending))

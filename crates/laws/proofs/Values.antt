@@ -32,7 +32,7 @@ module _ (s : State) (now : LocalTime) where
   ForHandled m =
       (p : Pending) × List·Memᴰ p (s .pending) × (handled s now p ≡ true) × List·Memᴰ m (sentFor s now (p .request .group) (p .request .timestamp))
 
-  -- handled is a batch's group and timestamp
+  -- whether a request is handled depends on its group and its timestamp
   same-handled : (p q : Pending) → p .request .group ≡ q .request .group → p .request .timestamp ≡ q .request .timestamp → handled s now p ≡ handled s now q
   same-handled p q of at = rw (of, at)
 

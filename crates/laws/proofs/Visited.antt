@@ -130,7 +130,7 @@ module _ (delta : ℕ) (now : LocalTime) (group : ℕ) where
 abbrev pub outcome : Effect State → Effect Store
 outcome e = record { state = e .state .store; sent = e .sent }
 
--- its cleared batches are handled in turn
+-- its cleared batches are handled one by one
 pub visit-one-by-one : (group : ℕ) (now : LocalTime) (looks : ℕ) (s : State) → length (s .pending) ≤ looks
     → outcome (visit group now looks s)
     ≡ oneByOne (s .settings) (s .number) group (clearedRequests (s .settings .delta) now group (s .pending)) (s .store)
@@ -153,12 +153,12 @@ visit-one-by-one group now (suc looks) s h = case (isStable delta now (batchOf g
     pending : List Pending
     pending = s .pending
 
-    turn : List Pending → Store → Effect Store
-    turn l v = oneByOne (s .settings) (s .number) group (clearedRequests delta now group l) v
+    done : List Pending → Store → Effect Store
+    done l v = oneByOne (s .settings) (s .number) group (clearedRequests delta now group l) v
 
     next : isStable delta now (batchOf group pending) ≡ true
-        → turn pending (s .store)
-        ≡ follow (handle (s .settings) (s .number) group (groupTimestamp group pending) (requestsOf (batchOf group pending)) (s .store)) (turn (others group pending))
+        → done pending (s .store)
+        ≡ follow (handle (s .settings) (s .number) group (groupTimestamp group pending) (requestsOf (batchOf group pending)) (s .store)) (done (others group pending))
     next e =
         one-by-one-first (s .settings) (s .number) group (clearedRequests delta now group pending) (s .store) (head-in delta now group pending e .1)
         ∙ rw (least-cleared delta now group pending e, batch-first delta now group pending e, rest-cleared delta now group pending e)
