@@ -20,10 +20,9 @@ use Rattle.rules.specs.declared.Pending.{Pending}
 use Rattle.question.proofs.Tests.{case}
 use Rattle.laws.proofs.Lists.{keep-in, in-keep, keep-none, keep-all, keep-append, map-keep, map-in}
 use Rattle.laws.proofs.Least.{stable-hit, batchAt-in, batchAt-group, others-other}
-use Rattle.laws.proofs.Verdict.{signed, handle-owner, handle-guest}
+use Rattle.laws.proofs.Verdict.{signed, handle-owner, handle-guest, handle-sent}
 use Rattle.laws.proofs.Visits.{visits-all}
 use Rattle.laws.proofs.Keeps.{Keeps, batch-keeps}
-use Rattle.laws.proofs.Owes.{handle-sent}
 use Rattle.laws.proofs.Occurring.{leastBatch, restOf}
 use Rattle.laws.proofs.Machine.{machineFrom, machine-later}
 use Rattle.failstop.specs.Demand3.{toGroup}

@@ -13,11 +13,11 @@ use Rattle.record.specs.declared.clock.LocalTime.{LocalTime}
 use Rattle.record.specs.declared.request.Request.{Request}
 use Rattle.rules.specs.Lists.{keep, upTo}
 use Rattle.rules.specs.Batch.{Store, Effect}
-use Rattle.rules.specs.Replica.{State, Stepped, requestsOf, ofGroup, visit, visits, writeAll, atTime, stepped, step}
+use Rattle.rules.specs.Replica.{State, Stepped, requestsOf, ofGroup, visit, visits, written, putAll, atTime, stepped, step}
 use Rattle.rules.specs.Machine.{reactAll}
 use Rattle.rules.specs.declared.Pending.{Pending}
 use Rattle.question.proofs.Tests.{case, both, within-true, in-within}
-use Rattle.laws.specs.Handled.{cleared, clearedOf, handledIn, ownHandled, leftBy, storeWhen, sentIn, sentBy}
+use Rattle.laws.specs.Handled.{cleared, clearedOf, handledIn, ownHandled, leftBy, storeWhen, visitSent, stepSent}
 use Rattle.laws.proofs.Lists.{keep-none, keep-both, keep-same, map-keep, flat-append, flat-same}
 use Rattle.laws.proofs.Keeps.{visits-keep}
 use Rattle.laws.proofs.Machine.{machineFrom}
@@ -134,7 +134,7 @@ module _ (s : State) (now : LocalTime) where
 
   next-sent : (n : ℕ)
       → oneByOne (s .settings) (s .number) (suc n) (nextRequests n) (leftBy s (ownHandled n s now)) .sent
-      ≡ sentIn s now (suc n)
+      ≡ visitSent s now (suc n)
   next-sent n = flat-same _ _ _ (λ t i.
       rw (
         batch-whole (s .settings .delta) now (suc n) (s .pending) t (occurring-cleared (s .settings .delta) now (suc n) (s .pending) i),
@@ -143,17 +143,17 @@ module _ (s : State) (now : LocalTime) where
       ))
 
   -- of the visits of groups 1 to n, by ascending group
-  pub visits-sent : (n : ℕ) → visits n now s .sent ≡ flatMap (sentIn s now) (upTo n)
+  pub visits-sent : (n : ℕ) → visits n now s .sent ≡ flatMap (visitSent s now) (upTo n)
   unfolding visits flatMap
   visits-sent zero = refl
   visits-sent (suc n) =
-      rw (flat-append (sentIn s now) (upTo n) (suc n ∷ []), append-nil (sentIn s now (suc n)), visits-sent n)
-      (ap (λ l. flatMap (sentIn s now) (upTo n) ++ l) (ap (λ (e : Effect Store). e .sent) (visit-next n (visits-store n)) ∙ next-sent n))
+      rw (flat-append (visitSent s now) (upTo n) (suc n ∷ []), append-nil (visitSent s now (suc n)), visits-sent n)
+      (ap (λ l. flatMap (visitSent s now) (upTo n) ++ l) (ap (λ (e : Effect Store). e .sent) (visit-next n (visits-store n)) ∙ next-sent n))
 
 -- ── a step ──
 
 -- its messages, all of them, in their order
-pub step-sends : (s : State) (now : LocalTime) → visits (s .settings .groups) now (atTime now s) .sent ≡ sentBy s now
+pub step-sends : (s : State) (now : LocalTime) → visits (s .settings .groups) now (atTime now s) .sent ≡ stepSent s now
 step-sends s now = visits-sent (atTime now s) now (s .settings .groups)
 
 module _ (s : State) (now : LocalTime) (output : List ℕ) {d : Stepped} (e : step s now output ≡ given d) where
@@ -162,7 +162,7 @@ module _ (s : State) (now : LocalTime) (output : List ℕ) {d : Stepped} (e : st
   unfolding stepped
   step-store = rw (step-accepted s now output e) (visits-store (atTime now s) now (s .settings .groups))
 
-  -- the messages are counted and written
-  pub step-writes : (d .count ≡ length (sentBy s now)) × (d .output ≡ writeAll (s .settings .k) (s .settings .groups) (sentBy s now) output)
+  -- and they are what is written
+  pub step-writes : written (d .count) (d .output) ≡ putAll (s .settings .k) (s .settings .groups) (written 0 output) (stepSent s now)
   unfolding stepped
-  step-writes = rw (step-accepted s now output e, step-sends s now) (refl, refl)
+  step-writes = rw (step-accepted s now output e, step-sends s now)

@@ -21,7 +21,6 @@ use Rattle.rules.specs.Replica.{State, Stepped, stepQuestions, batchOf, isStabl
 use Rattle.rules.specs.declared.Pending.{Pending}
 use Rattle.laws.proofs.Keeps.{Keeps, visits-keep}
 use Rattle.laws.proofs.Settles.{visits-settle}
-use Rattle.laws.proofs.Owes.{Owed, visits-owe}
 use Rattle.laws.proofs.Count.{visits-cost}
 
 -- an accepted step gives what the rules make of the state, the time and the output
@@ -34,18 +33,6 @@ module _ (s : State) (now : LocalTime) (output : List ℕ) {d : Stepped} (e : st
   pub step-settles : (g : ℕ) → 1 ≤ g → g ≤ s .settings .groups → isStable (s .settings .delta) now (batchOf g (d .state .pending)) ≡ false
   unfolding stepped
   step-settles g low high = rw (step-accepted s now output e) (visits-settle (s .settings .groups) now (atTime now s) g low high)
-
-  -- every message belongs to a batch that was stable and is handled
-  pub step-owes : (m : Message) → List·Memᴰ m (visits (s .settings .groups) now (atTime now s) .sent) → Owed now s (d .state) m
-  unfolding stepped
-  step-owes m i =
-      let o = visits-owe (s .settings .groups) now (atTime now s) .owed m i in
-      record { stable = o .stable; store = o .store; sent = o .sent; gone = rw (step-accepted s now output e) (o .gone) }
-
-  -- the pending requests of a group with a timestamp are handled all or none
-  pub step-takes-whole : (g : ℕ) (t : Timestamp) → (batchAt g t (d .state .pending) ≡ []) ⊎ (batchAt g t (d .state .pending) ≡ batchAt g t (s .pending))
-  unfolding stepped
-  step-takes-whole g t = rw (step-accepted s now output e) (visits-owe (s .settings .groups) now (atTime now s) .whole g t)
 
   -- the time is the step's; otherwise the state is what it was, but for the variables' values, the writes performed, and requests
   -- that are no longer pending

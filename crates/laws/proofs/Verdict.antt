@@ -1,7 +1,7 @@
 -- What a batch amounts to, and what comes of it, at a replica and in the machine: the four cases that every proof on a batch goes by.
 -- The owner's comes to the same at both.
 use Prim.Native.Nat.{ℕ, _+_}
-use mathlib.Core.Path.{_≡_, refl}
+use mathlib.Core.Path.{_≡_, refl, _∙_, ap}
 use mathlib.Core.Bool.{true, false, not, _&&_}
 use mathlib.Core.List.{List, [], _∷_, map, map-map, List·Memᴰ, List·Memᴰ·head, List·Memᴰ·not-nil}
 use native.Mathlib.Omega.{arith}
@@ -135,3 +135,16 @@ pub handle-guest : (u : Settings) (me group : ℕ) (t : Timestamp) (batch : List
 unfolding handle
 handle-guest u me group t batch s e =
     elim (verdictOf (u .k) batch) as (λ v. carryOut u me group t batch s v .state ≡ s) [ reads ↦ refl | agreed r ↦ rw e | dissent ↦ rw e ]
+
+-- the messages for a batch have its group and its timestamp
+pub handle-sent : (u : Settings) (replica group : ℕ) (t : Timestamp) (batch : List Request) (s : Store)
+    → ((r : Request) → List·Memᴰ r batch → (r .group ≡ group) × (r .timestamp .0 ≡ t .0))
+    → (m : Message) → List·Memᴰ m (handle u replica group t batch s .sent) → (m .group ≡ group) × (m .timestamp ≡ t)
+handle-sent u replica group t batch s of m i =
+    go (handled-said (u .k) (u .owner) replica group t batch s (handle-view u replica group t batch s) m i)
+  where
+    go : Said (u .k) (u .owner) replica group t batch s m → (m .group ≡ group) × (m .timestamp ≡ t)
+    go (replied r j e) =
+        let o = of r j in
+        (ap (λ (x : Message). x .group) e ∙ o .0, ap (λ (x : Message). x .timestamp) e ∙ ap (λ (x : ℕ). record { 0 = x }) (o .1))
+    go (halted process j e) = (ap (λ (x : Message). x .group) e, ap (λ (x : Message). x .timestamp) e)

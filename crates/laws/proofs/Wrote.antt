@@ -1,6 +1,7 @@
 -- What was written, not what was meant: of every state that a run reaches, over the bytes of the output.
 use Prim.Native.Nat.{ℕ}
-use mathlib.Core.Path.{_≡_, sym, subst}
+use mathlib.Core.Path.{_≡_, subst}
+use mathlib.Core.Logic.{_↔_}
 use mathlib.Core.List.{List, List·Memᴰ}
 use Rattle.question.specs.Question.{given}
 use Rattle.record.specs.declared.clock.LocalTime.{LocalTime}
@@ -8,10 +9,9 @@ use Rattle.record.specs.declared.message.Message.{Message}
 use Rattle.rules.specs.Replica.{State, Stepped, newState, make, visits, atTime, step}
 use Rattle.rules.specs.Run.{Call, messagesIn, run}
 use Rattle.rules.specs.declared.Settings.{Settings}
-use Rattle.laws.proofs.Owes.{Owed}
-use Rattle.laws.proofs.Step.{step-owes}
 use Rattle.laws.proofs.Accepted.{Made, make-made}
 use Rattle.laws.proofs.Sound.{Sound, new-sound}
+use Rattle.laws.proofs.Values.{ForHandled, sent-exactly}
 use Rattle.laws.proofs.Calls.{AllLent, Wrote, step-wrote, run-sound}
 
 module _ (u : Settings) (number : ℕ) (made : make u number ≡ given (newState u number)) (calls : List Call) (lent : AllLent calls)
@@ -29,9 +29,10 @@ module _ (u : Settings) (number : ℕ) (made : make u number ≡ given (newState
   pub run-wrote : {d : Stepped} → step reached now output ≡ given d → Wrote u (visits (u .groups) now (atTime now reached) .sent) output d
   run-wrote e = step-wrote u number ok reached now output sound e
 
-  -- every message that is read from those bytes belongs to a batch that was stable and is handled
-  pub run-owes : {d : Stepped} → step reached now output ≡ given d
-      → (m : Message) → List·Memᴰ m (messagesIn (u .k) (u .groups) (d .count) (d .output)) → Owed now reached (d .state) m
-  run-owes e m i =
-      step-owes reached now output e m
-      (subst (λ (v : Settings). List·Memᴰ m (visits (v .groups) now (atTime now reached) .sent)) (sym (sound .settings)) (rw (run-wrote e .read) at i))
+  -- the messages that are read from those bytes are exactly those of the handled batches
+  pub run-sent-exactly : {d : Stepped} → step reached now output ≡ given d
+      → (m : Message) → List·Memᴰ m (messagesIn (u .k) (u .groups) (d .count) (d .output)) ↔ ForHandled reached now m
+  run-sent-exactly e m =
+      rw (run-wrote e .read)
+      (subst (λ (v : Settings). List·Memᴰ m (visits (v .groups) now (atTime now reached) .sent) ↔ ForHandled reached now m) (sound .settings)
+      (sent-exactly reached now m))

@@ -72,14 +72,14 @@ abbrev pub storeWhen : State → LocalTime → ℕ → Timestamp → Store
 storeWhen s now group t = leftBy s (ownBefore s now group t)
 
 -- the messages that are sent for it
-abbrev pub sentFor : State → LocalTime → ℕ → Timestamp → List Message
-sentFor s now group t = handle (s .settings) (s .number) group t (requestsOf (batchAt group t (s .pending))) (storeWhen s now group t) .sent
+abbrev pub batchSent : State → LocalTime → ℕ → Timestamp → List Message
+batchSent s now group t = handle (s .settings) (s .number) group t (requestsOf (batchAt group t (s .pending))) (storeWhen s now group t) .sent
 
 -- those of the visit of a group, by rising timestamp
-abbrev pub sentIn : State → LocalTime → ℕ → List Message
-sentIn s now group =
-    flatMap (sentFor s now group) (occurring (requestsOf (keep (clearedOf (s .settings .delta) now (s .pending) group) (s .pending))))
+abbrev pub visitSent : State → LocalTime → ℕ → List Message
+visitSent s now group =
+    flatMap (batchSent s now group) (occurring (requestsOf (keep (clearedOf (s .settings .delta) now (s .pending) group) (s .pending))))
 
 -- those of a step, by ascending group
-abbrev pub sentBy : State → LocalTime → List Message
-sentBy s now = flatMap (sentIn s now) (upTo (s .settings .groups))
+abbrev pub stepSent : State → LocalTime → List Message
+stepSent s now = flatMap (visitSent s now) (upTo (s .settings .groups))
