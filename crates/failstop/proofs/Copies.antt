@@ -101,7 +101,7 @@ module _ (u : Settings) (faulty : ℕ → Bool) (calls : ℕ → List Call) (bag
 
   somebody : (i : ℕ) × Correct u faulty i
   somebody =
-      let h = tally-hit (λ i. not (faulty i)) (2 * u .k + 1) (omega (arith, correct-many (u .k) faulty (sup .few))) in
+      let h = tally-hit (λ i. not (faulty i)) (2 * u .k + 1) (omega (arith, correct-many (u .k) faulty (omega (arith, sup .few)))) in
       (h .0, record { low = h .1; high = h .2; faultless = not-true (faulty (h .0)) (h .3) })
 
   pub unit-asked : AllYes (unitQuestions (u .k) (u .groups))

@@ -7,3 +7,4 @@ pub mod Vote
 pub mod Sample
 pub mod Examples
 pub mod Units
+pub mod EdgeUnits
