@@ -69,7 +69,7 @@ fn main() -> io::Result<()> {
     };
     let folder = Path::new(&folder);
     let refused = [refused_first(), refused_requests(), refused_calls(), refused_records()];
-    let others = [plain(), examples(), units(), ends(), random(), long()];
+    let others = [plain(), examples(), units(), runs(), ends(), random(), long()];
     for (name, bytes) in [refused.concat(), others.concat()].concat() {
         fs::write(folder.join(name), bytes)?;
     }
@@ -149,6 +149,12 @@ fn refused_calls() -> Journals {
     let at = |time, stamp| delivery_entry(1, time, &read(1, 3, stamp));
     let mut full = all(1, 100, &[read(1, 3, 51); 65]);
     full.extend([step_entry(1, 106), at(107, 52)]);
+    // Without room, a request that is wrong gets 11 whatever its time; one that is right gets 12, 13
+    // or 14 by its time.
+    let mut ordered = all(1, 100, &[read(1, 3, 51); 64]);
+    let wrong = with(read(1, 3, 51), 23, 1);
+    ordered.extend([LAST_TIME + 1, 99, 100].map(|time| delivery_entry(1, time, &wrong)));
+    ordered.extend([LAST_TIME + 1, 99, 100].map(|time| at(time, 51)));
     // Past 2^62, delivery and turn; at 2^62 both are accepted, and the next turn is not ripe.
     let too_late = [
         at(LAST_TIME + 1, 51),
@@ -174,6 +180,7 @@ fn refused_calls() -> Journals {
         ("no-13", unchanged(&backwards)),
         // "Also run": the 64th delivery is accepted, the 65th not; a turn makes room again.
         ("no-14", unchanged(&full)),
+        ("no-14-in-order", unchanged(&ordered)),
     ]
 }
 
@@ -263,6 +270,15 @@ fn units() -> Journals {
         seven.push(delivery_entry(card, 11, &read(2, 9, 11)));
         seven.push(step_entry(card, 12));
     }
+    // k = 2: four of five cards perform one write, and answer the last program card's read of it; card
+    // 5, the last, gets another value from that program card and fails.
+    let mut five = vec![setup_entry(2, 1, 1, 0)];
+    for card in 1..=5 {
+        let value = if card == 5 { 6 } else { 5 };
+        five.extend(all(card, 10, &[write_by(1, 1), write_by(1, 2), write(3, 9, 10, value)]));
+        five.push(delivery_entry(card, 11, &read(3, 9, 11)));
+        five.push(step_entry(card, 12));
+    }
     // N = 4, owner 2: the groups are visited from 1 to 4; writes of guests do nothing.
     let mut four = vec![setup_entry(0, 4, 2, 0)];
     for group in [4, 3, 2, 1] {
@@ -283,9 +299,64 @@ fn units() -> Journals {
     most.push(step_entry(1, 11));
     vec![
         ("seven-cards", seven.concat()),
+        ("five-cards", five.concat()),
         ("four-groups", four.concat()),
         ("freeze-four-halts", freeze.concat()),
         ("most-messages", most.concat()),
+    ]
+}
+
+/// Longer runs of a unit as in document 01's examples.
+fn runs() -> Journals {
+    let both =
+        |variable, stamp, value| [1, 2].map(|process| write(process, variable, stamp, value));
+    let guest = |process, variable, stamp| request(READ, 2, process, variable, stamp, 0);
+    // Six unanimous writes, among them a value again, a 0 and a value that was there before, and a read
+    // of what each left. Card 1 gets them one after the other, with a turn for each; card 2 all at
+    // reading 0, the last first, with one turn.
+    let values = [(4, 7), (4, 7), (4, 0), (3, 5), (4, 9), (4, 7)];
+    let mut writes = Vec::new();
+    for (stamp, (variable, value)) in (10..).step_by(10).zip(values) {
+        writes.push([&both(variable, stamp, value)[..], &[read(1, variable, stamp + 1)]].concat());
+    }
+    let mut six = Vec::new();
+    for (time, requests) in (100..).step_by(10).zip(&writes) {
+        six.extend(all(1, time, requests));
+        six.push(step_entry(1, time + 6));
+    }
+    writes.reverse();
+    six.extend(all(2, 0, &writes.concat()));
+    six.push(step_entry(2, 6));
+    // The first and the last variable that can be written, and their neighbours, which stay 0.
+    let (last, first) = (both(255, 10, 7), both(1, 20, 8));
+    let reads = [255, 254, 0, 1, 2].map(|variable| read(1, variable, 30));
+    // A dissent; then reads of the owner and of a guest, two of each in one group, the program cards
+    // in falling order, of variable 0 and of what was written before; a write among reads, which
+    // halts nobody again.
+    let dissent = [write(1, 4, 20, 8), write(2, 4, 20, 9)];
+    let owners = [read(2, 0, 30), read(1, 4, 30), read(1, 4, 40), write(2, 4, 40, 7)];
+    let guests = [guest(2, 4, 5), guest(1, 0, 5)];
+    let mut after = [all(1, 100, &both(4, 10, 7)), all(1, 101, &dissent)].concat();
+    after.push(step_entry(1, 107));
+    after.extend([all(1, 108, &owners), all(1, 108, &guests)].concat());
+    after.push(step_entry(1, 114));
+    // Requests at first + δ, behind a turn at that very reading. Card 1 has the read first, and the
+    // writes that come before it δ later; card 2 has the second write δ after the first. On card 3 it
+    // comes one later, against the arrival rule, and behind a turn: the card fails.
+    let [one, two] = both(4, 10, 7);
+    let mut edge = vec![delivery_entry(1, 100, &read(1, 4, 20)), step_entry(1, 105)];
+    edge.extend(all(1, 105, &[one, two]));
+    edge.extend([110, 111].map(|time| step_entry(1, time)));
+    for (card, late) in [(2, 105), (3, 106)] {
+        edge.extend([delivery_entry(card, 100, &one), step_entry(card, late)]);
+        edge.extend(all(card, late, &[two, read(1, 4, 20)]));
+        edge.extend([late + 5, late + 6].map(|time| step_entry(card, time)));
+    }
+    vec![
+        ("six-writes", example(&six)),
+        ("ends-of-variables", handled(&[&last[..], &first, &reads].concat())),
+        ("reads-after-freeze", example(&after)),
+        ("arrival-at-delta", example(&edge)),
     ]
 }
 
