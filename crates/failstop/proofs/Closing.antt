@@ -5,9 +5,8 @@ use mathlib.Core.Logic.{⊎-elim}
 use mathlib.Core.Bool.{true, false}
 use mathlib.Core.List.{List, [], _∷_, List·Memᴰ, List·Memᴰ·not-nil}
 use native.Mathlib.Omega.{arith}
-use lib.Dec.{ltb}
 use lib.ListN.{length}
-use borrow.Author.Tests.{eqb-true, ltb-true, lt-ltb}
+use borrow.Author.Tests.{eqb-true, leb-true, lt-ltb}
 use Rattle.question.specs.Question.{Answer, given, refused, isGiven}
 use Rattle.record.specs.declared.clock.LocalTime.{LocalTime}
 use Rattle.rules.specs.Lists.{some}
@@ -15,7 +14,7 @@ use Rattle.rules.specs.Batch.{Effect}
 use Rattle.rules.specs.declared.Settings.{Settings}
 use Rattle.rules.specs.Replica.{State, Stepped, ofGroup, batchOf, earliest, isStable, visits, atTime, step}
 use Rattle.rules.specs.Run.{Call, delivery, turn, call, run, stepTimes}
-use Rattle.failstop.specs.Suppose.{closes}
+use Rattle.failstop.specs.Suppose.{isPast, closes}
 use Rattle.rules.specs.declared.Pending.{Pending}
 use Rattle.question.proofs.Tests.{case, true-not-false}
 use Rattle.laws.proofs.Lists.{no-member, keep-in, every-in}
@@ -65,8 +64,12 @@ module _ (u : Settings) (me : ℕ) (ok : Made u me) where
         → mine u (run (call s (turn now output) .state) calls .state .pending) ≡ []
     closing-empty s now output calls w given-one e = go (step s now output) refl
       where
+        -- what the test says, whichever it is
+        past : (p : Pending) → isPast (u .delta) now p ≡ true → p .arrival .0 + u .delta < now .0
+        past p h = omega (arith, leb-true)
+
         old : (p : Pending) → List·Memᴰ p all → p .arrival .0 + u .delta < now .0
-        old p i = ltb-true (p .arrival .0 + u .delta) (now .0) (every-in (λ p. ltb (p .arrival .0 + u .delta) (now .0)) all e p i)
+        old p i = past p (every-in (isPast (u .delta) now) all e p i)
 
         go : (a : Answer Stepped) → step s now output ≡ a → mine u (run (call s (turn now output) .state) calls .state .pending) ≡ []
         go (refused number) f = true-not-false (isGiven (step s now output)) given-one (ap isGiven f)
