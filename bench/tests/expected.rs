@@ -142,6 +142,7 @@ impl Script {
 
     fn make(&mut self, n: &Numbers) -> String {
         let made = Replica::make(n.byte(0), n.byte(1), n.byte(2), n.long(3), n.byte(4));
+        self.replica = None;
         answer(made, |replica| {
             self.replica = Some(replica);
             "done".to_string()

@@ -1,16 +1,17 @@
 //! Replicas that no call leaves and lists longer than their array. The
-//! interface settles nothing about them but that the call returns and that
-//! bytes that were not lent stay.
+//! interface settles little about them: the call returns, bytes that were
+//! not lent stay, and a step counts the records that stand in its output.
 
 use super::lent::Lent;
 use super::records::some_request;
 use super::tally::{Event, Tally};
-use super::Outcome;
+use super::{same, same_lists, Outcome};
 use crate::convert::{to_list, to_replica};
+use crate::difference::Difference;
 use crate::ffi;
-use crate::model::record::MessageFields;
+use crate::model::record::{read_message, MessageFields};
 use crate::model::replica::Replica;
-use crate::model::{OUTPUT_SIZE, PENDING_LIMIT};
+use crate::model::{number_of, OUTPUT_SIZE, PENDING_LIMIT, RECORD_SIZE};
 use crate::random::Random;
 
 /// A few calls with a malformed replica or list.
@@ -22,13 +23,34 @@ pub fn run(random: &mut Random, tally: &mut Tally) -> Outcome {
         let bytes = some_request(replica.settings.k, replica.settings.groups, random).encode();
         let at = some_time(&replica, random);
         replica = ffi::deliver(replica, &bytes, ffi::LocalTime(at)).replica;
-        let mut lent = Lent::new(some_room(random), random);
-        replica = ffi::step(replica, ffi::LocalTime(at), lent.lend()).replica;
-        lent.check_margins(|| "a step with a malformed replica".to_string())?;
+        replica = step(replica, ffi::LocalTime(at), random)?;
     }
     tally.events(Event::MalformedCall, 2);
     long_list(random);
     Ok(())
+}
+
+/// What a step counts are messages of the replica's unit, from the start of
+/// the output; behind them stands what stood there.
+fn step(
+    replica: ffi::Replica,
+    at: ffi::LocalTime,
+    random: &mut Random,
+) -> Result<ffi::Replica, Difference> {
+    let input = || format!("a step with a malformed replica of {:?}", replica.settings);
+    let mut lent = Lent::new(some_room(random), random);
+    let before = lent.original();
+    let stepped = ffi::step(replica, at, lent.lend());
+    lent.check_margins(input)?;
+    let size = stepped.count * RECORD_SIZE;
+    same("room for what is counted", true, size <= before.len(), input)?;
+    let (records, rest) = lent.lend().split_at(size);
+    for record in records.chunks(RECORD_SIZE) {
+        let read = read_message(replica.settings.k, replica.settings.groups, record);
+        same("a counted record's refusal", 0, number_of(&read), input)?;
+    }
+    same_lists("behind the records, byte", &before[size..], rest, input)?;
+    Ok(stepped.replica)
 }
 
 fn some_room(random: &mut Random) -> usize {

@@ -10,7 +10,7 @@ use super::{same, same_lists, Outcome};
 use crate::convert::to_settings;
 use crate::difference::Difference;
 use crate::ffi;
-use crate::model::record::{Request, REPLY};
+use crate::model::record::{Request, RequestFields, READ, REPLY};
 use crate::model::replica::{Pending, Replica};
 use crate::model::{number_of, LocalTime, OUTPUT_SIZE, PENDING_LIMIT, RECORD_SIZE, STEP_MESSAGES};
 use crate::model::{Refusal, Timestamp, TIME_LIMIT};
@@ -25,9 +25,6 @@ pub struct Making {
     pub delta: u64,
     pub number: u8,
 }
-
-/// The replica that comes along with a refusal to make one.
-const AFTER_REFUSAL: Making = Making { k: 0, groups: 1, owner: 1, delta: 0, number: 1 };
 
 impl Making {
     fn model(self) -> Result<Replica, Refusal> {
@@ -71,17 +68,32 @@ pub fn make(making: Making, tally: &mut Tally) -> Result<Option<Pair>, Differenc
     let found = making.other();
     tally.answer(Call::Make, number_of(&expected));
     same("refusal", number_of(&expected), found.refusal, input)?;
-    let (model, accepted) = match expected {
-        Ok(model) => (model, true),
-        Err(_) => (AFTER_REFUSAL.model().expect("allowed settings"), false),
+    let Ok(model) = expected else {
+        blank(&found.replica, input)?;
+        return Ok(None);
     };
     same_replica(&model, &found.replica, &input)?;
-    if !accepted {
-        return Ok(None);
-    }
     note_making(making, tally);
     let (actions, past) = (Vec::new(), Past::default());
     Ok(Some(Pair { model, other: found.replica, making, actions, past }))
+}
+
+/// Beside the refusal of a making stand zeros. Such a replica accepts no
+/// request, not even one of the smallest unit, and a step of it does nothing.
+fn blank(replica: &ffi::Replica, input: impl Fn() -> String + Copy) -> Outcome {
+    let zero = ffi::Settings { k: 0, groups: 0, owner: 0, delta: 0 };
+    let figures = (replica.settings, replica.number, replica.last.0, replica.writes);
+    same("blank", (zero, 0, 0, 0), figures, input)?;
+    same_lists("blank variable", &[0; 256], &replica.variables, input)?;
+    same("blank count", 0, replica.queue.count, input)?;
+    same_lists("blank place", &[ffi::Pending::default(); 64], &replica.queue.pending, input)?;
+    let request = RequestFields { kind: READ, group: 1, process: 1, ..RequestFields::default() };
+    let delivered = ffi::deliver(*replica, &request.encode(), ffi::LocalTime(0));
+    same("refusal of a blank replica", 2, delivered.refusal, input)?;
+    let mut output = [170; OUTPUT_SIZE];
+    let stepped = ffi::step(*replica, ffi::LocalTime(1), &mut output);
+    same("step of a blank replica", (0, 0), (stepped.refusal, stepped.count), input)?;
+    same_lists("output of a blank replica, byte", &[170; OUTPUT_SIZE], &output, input)
 }
 
 fn note_making(making: Making, tally: &mut Tally) {

@@ -31,7 +31,7 @@ fn run_record(name: Name, s: Scan) {
 
 fn run_replica(name: Name, s: Scan, r: Replica) -> Replica {
     match name {
-        Name::Make => replicas::make(s, r),
+        Name::Make => replicas::make(s),
         Name::Spoil => replicas::spoil(s, r),
         Name::Deliver => replicas::deliver(s, r),
         Name::Step => replicas::step(s, r),

@@ -4,7 +4,6 @@
 use crate::records::bytes_from;
 use crate::script::Scan;
 use limits::RECORD;
-use question::Outcome;
 use record::LocalTime;
 use record::MessageRead;
 use replica::Replica;
@@ -30,15 +29,12 @@ fn settings_from(s: Scan) -> Settings {
     }
 }
 
-pub(crate) fn make(s: Scan, old: Replica) -> Replica {
+// After a refused making it is the blank replica that stands beside the number.
+pub(crate) fn make(s: Scan) -> Replica {
     let m = replica::make(settings_from(s), s.byte(4));
     let outcome = m.outcome;
-    let made = m.replica;
     crate::show::outcome(outcome);
-    match outcome {
-        Outcome::Done => made,
-        Outcome::Refused(_) => old,
-    }
+    m.replica
 }
 
 // A replica that no call makes: k, N, owner, delta, number, the count and the last local time set.
