@@ -5,3 +5,4 @@ pub mod Whole
 pub mod Plays
 pub mod Pages
 pub mod Room
+pub mod Numbers

@@ -4,6 +4,7 @@ pub mod Replica
 pub mod Run
 pub mod Machine
 pub mod Vote
+pub mod Numbers
 pub mod Sample
 pub mod Examples
 pub mod Units
