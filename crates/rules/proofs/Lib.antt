@@ -1,3 +1,6 @@
 pub mod Numbers
 pub mod Examples
 pub mod Units
+pub mod Edges
+pub mod Refusals
+pub mod Polls

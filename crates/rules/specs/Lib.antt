@@ -9,3 +9,7 @@ pub mod Sample
 pub mod Examples
 pub mod Units
 pub mod EdgeUnits
+pub mod Edges
+pub mod Refusals
+pub mod RecordRefusals
+pub mod Polls
