@@ -4,20 +4,19 @@ use mathlib.Core.Path.{_≡_}
 use mathlib.Core.Bool.{true, cond}
 use mathlib.Core.List.{List}
 use native.Mathlib.Omega.{arith}
-use lib.ListN.{length, getD, set, length-append, length-map}
-use lib.Seq.{getD-set-same}
-use borrow.Author.Tests.{eq-eqb}
+use lib.ListN.{length, length-append, length-map}
 use Rattle.record.specs.declared.clock.Timestamp.{Timestamp}
 use Rattle.record.specs.declared.clock.LocalTime.{LocalTime}
 use Rattle.record.specs.declared.request.Request.{Request}
 use Rattle.rules.specs.Lists.{upTo}
-use Rattle.rules.specs.Batch.{firstOf, Store, Effect, still, follow, failed, perform, fail, replyTo, haltTo, handle}
+use Rattle.rules.specs.Batch.{firstOf, Store, Effect, still, follow, failed, perform, replyTo, haltTo, handle}
 use Rattle.rules.specs.declared.Settings.{Settings}
 use Rattle.rules.specs.Replica.{State, requestsOf, groupTimestamp, batchOf, isStable, handleBatch, visits}
 use Rattle.rules.specs.declared.Pending.{Pending}
 use Rattle.question.proofs.Tests.{case}
 use Rattle.laws.proofs.Lists.{length-upTo}
 use Rattle.laws.proofs.Least.{stable-some, others-batch}
+use Rattle.laws.proofs.Storage.{fail-failed}
 use Rattle.laws.proofs.Verdict.{Handled, answered, performed, failing, passed, handle-view}
 use Rattle.laws.proofs.Visits.{visits-all}
 use Rattle.laws.proofs.Keeps.{Keeps, keeps-same, keeps-then, batch-keeps}
@@ -39,7 +38,7 @@ handle-cost u replica group t batch s filled room = go (handle-view u replica gr
     go (answered a) = omega (arith, length-map batch (replyTo s replica))
     go (performed a o f) = rw f (omega (arith, spare-le (u .k) (perform (firstOf batch) s)))
     go (failing o f) =
-        let g : failed (fail s) ≡ true = eq-eqb (getD (set (s .variables) 0 1) 0 0) 1 (getD-set-same (s .variables) 0 1 0 room) in
+        let g = fail-failed s room in
         rw (f, g) (omega (arith, length-map (upTo (u .k + 1)) (haltTo group replica t), length-upTo (u .k + 1)))
     go passed = omega arith
 

@@ -6,8 +6,7 @@ use mathlib.Core.Logic.{_≢_, ⊎-elim}
 use mathlib.Core.Bool.{true}
 use mathlib.Core.List.{List, [], _∷_, List·Memᴰ, List·Memᴰ·not-nil, List·Memᴰ·append-cases}
 use native.Mathlib.Omega.{arith}
-use lib.ListN.{length, getD, set, replicate, length-set, length-replicate}
-use lib.Seq.{getD-set-same, getD-set-other}
+use lib.ListN.{length, getD, set, replicate, length-replicate}
 use Rattle.limits.specs.Limits.{places}
 use Rattle.record.specs.Kind.{isOf}
 use Rattle.record.specs.Record.{messageFields, allowsVariable, allowsValue, sparesZero}
@@ -24,6 +23,7 @@ use Rattle.rules.specs.declared.Pending.{Pending}
 use Rattle.question.proofs.Tests.{in-within}
 use Rattle.laws.proofs.Lists.{every-in, map-in, upTo-in}
 use Rattle.laws.proofs.Least.{stable-hit, batchAt-in}
+use Rattle.laws.proofs.Storage.{perform-others, perform-length, fail-marks, fail-length}
 use Rattle.laws.proofs.Verdict.{Unanimous, Handled, answered, performed, failing, passed, Said, replied, halted, handled-said, handle-view}
 use Rattle.laws.proofs.Visits.{visits-all}
 use Rattle.laws.proofs.Keeps.{Keeps, batch-keeps}
@@ -59,7 +59,7 @@ perform-mark k batch s a h =
     let r = firstOf batch in
     let low = h r (a .first) (every-in isWrite batch (a .writes) r (a .first)) in
     let apart : 0 ≢ r .variable = omega arith in
-    getD-set-other (s .variables) (r .variable) 0 (r .value) 0 apart
+    perform-others r s 0 apart
 
 -- handling a batch of accepted requests keeps the store in order
 handle-in-order : (u : Settings) (replica group : ℕ) (t : Timestamp) (batch : List Request) (s : Store)
@@ -69,14 +69,14 @@ handle-in-order u replica group t batch s proper h = go (handle-view u replica g
     go : {e : Effect Store} → Handled (u .k) (u .owner) replica group t batch s e → InOrder (e .state)
     go (answered a) = h
     go (performed a o f) = record {
-      variables = length-set (s .variables) (firstOf batch .variable) (firstOf batch .value) ∙ h .variables;
+      variables = perform-length (firstOf batch) s ∙ h .variables;
       values = set-below (256 ^ 4) (s .variables) (firstOf batch .variable) (firstOf batch .value) (proper (firstOf batch) (a .first) .value) (h .values);
       mark = rw (perform-mark (u .k) batch s a (λ r i. proper r i .written)) (h .mark);
     }
     go (failing o f) = record {
-      variables = length-set (s .variables) 0 1 ∙ h .variables;
+      variables = fail-length s ∙ h .variables;
       values = set-below (256 ^ 4) (s .variables) 0 1 (omega arith) (h .values);
-      mark = rw (getD-set-same (s .variables) 0 1 0 (omega (arith, h .variables))) (omega arith);
+      mark = rw (fail-marks s (omega (arith, h .variables))) (omega arith);
     }
     go passed = h
 

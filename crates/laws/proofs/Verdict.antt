@@ -6,7 +6,7 @@ use mathlib.Core.Bool.{true, false, not, _&&_}
 use mathlib.Core.List.{List, [], _∷_, map, map-map, List·Memᴰ, List·Memᴰ·head, List·Memᴰ·not-nil}
 use native.Mathlib.Omega.{arith}
 use lib.Dec.{eqb}
-use lib.ListN.{length, length-set}
+use lib.ListN.{length}
 use borrow.Author.Tests.{eqb-true, eq-eqb, not-true}
 use Rattle.record.specs.Kind.{isWrite, sameWrite}
 use Rattle.record.specs.declared.clock.Timestamp.{Timestamp}
@@ -18,6 +18,7 @@ use Rattle.rules.specs.declared.Settings.{Settings}
 use Rattle.rules.specs.Machine.{nobody, decide, react, signedBy}
 use Rattle.question.proofs.Tests.{case, both}
 use Rattle.laws.proofs.Lists.{map-in}
+use Rattle.laws.proofs.Storage.{perform-length, fail-length}
 
 -- ── the verdict ──
 
@@ -81,8 +82,8 @@ module _ (k owner replica group : ℕ) (t : Timestamp) (batch : List Request) (s
   -- neither adds nor drops a variable
   pub handled-variables : {e : Effect Store} → Handled e → length (e .state .variables) ≡ length (s .variables)
   handled-variables (answered a) = refl
-  handled-variables (performed a o f) = length-set (s .variables) (firstOf batch .variable) (firstOf batch .value)
-  handled-variables (failing o f) = length-set (s .variables) 0 1
+  handled-variables (performed a o f) = perform-length (firstOf batch) s
+  handled-variables (failing o f) = fail-length s
   handled-variables passed = refl
 
 -- at a replica
