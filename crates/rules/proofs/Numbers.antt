@@ -1,22 +1,39 @@
--- Whatever a call is given, it is refused with a number that document 01 lists for it.
+-- The questions of a call have the numbers that document 01 lists for it, and whatever it is given, it is refused with one of those.
 use Prim.Native.Nat.{ℕ, _+_}
+use mathlib.Core.Path.{_≡_, refl}
 use mathlib.Core.Bool.{Bool, _&&_}
-use mathlib.Core.List.{List, [], _∷_, List·Memᴰ·head}
+use mathlib.Core.List.{List, [], _∷_, _++_, List·Memᴰ·head}
 use lib.Dec.{leb}
-use Rattle.question.specs.Question.{Listed, unitQuestions}
+use Rattle.question.specs.Question.{numbersOf, Listed, unitQuestions}
 use Rattle.question.proofs.Questions.{given-listed, ask-listed, bind-listed, cond-listed}
-use Rattle.record.specs.Record.{fieldQuestions, readFields, writeFields, readRequest, readMessage, writeRequest, writeMessage}
+use Rattle.record.specs.Record.{fieldQuestions, readQuestions, writeQuestions, readFields, writeFields, readRequest, readMessage, writeRequest, writeMessage}
 use Rattle.record.specs.declared.clock.LocalTime.{LocalTime}
+use Rattle.record.specs.declared.fields.Fields.{Fields}
 use Rattle.record.specs.declared.kind.Family.the-variants.{Requests, Messages}
 use Rattle.record.specs.declared.message.Message.{Message}
 use Rattle.record.specs.declared.request.Request.{Request}
 use Rattle.rules.specs.declared.Settings.{Settings}
 use Rattle.rules.specs.declared.Query.{Query}
-use Rattle.rules.specs.Replica.{State, make, admit, deliver, step}
-use Rattle.rules.specs.Vote.{countsFor, support, elect, vote, haltCount}
+use Rattle.rules.specs.Replica.{State, makeQuestions, placeQuestions, stepQuestions, make, admit, deliver, step}
+use Rattle.rules.specs.Vote.{countsFor, support, elect, listQuestions, vote, haltCount}
 use Rattle.rules.specs.Numbers.{makeNumbers, readRequestNumbers, readMessageNumbers, writeRequestNumbers, writeMessageNumbers, deliverNumbers, stepNumbers, voteNumbers, haltCountNumbers}
 
--- ── records ──
+-- ── the questions of each call have its numbers, in document 01's order ──
+
+pub numbers-in-order : (u : Settings) (k n number room count : ℕ) (bytes : List ℕ) (f : Fields) (last now : LocalTime) (list : List Message) →
+    (numbersOf (makeQuestions u number) ≡ makeNumbers)
+    × (numbersOf (readQuestions Requests k n bytes) ≡ readRequestNumbers)
+    × (numbersOf (readQuestions Messages k n bytes) ≡ readMessageNumbers)
+    × (numbersOf (writeQuestions Requests k n f room) ≡ writeRequestNumbers)
+    × (numbersOf (writeQuestions Messages k n f room) ≡ writeMessageNumbers)
+    × (numbersOf (readQuestions Requests k n bytes ++ placeQuestions last count now) ≡ deliverNumbers)
+    × (numbersOf (stepQuestions last now room) ≡ stepNumbers)
+    × (numbersOf (listQuestions k n list) ++ (17 ∷ []) ≡ voteNumbers)
+    × (numbersOf (listQuestions k n list) ≡ haltCountNumbers)
+unfolding unitQuestions fieldQuestions
+numbers-in-order u k n number room count bytes f last now list = (refl, refl, refl, refl, refl, refl, refl, refl, refl)
+
+-- ── records: whatever they are given, they are refused with no other number ──
 
 module _ (k n : ℕ) (bytes : List ℕ) where
   pub read-request-numbers : Listed readRequestNumbers (readRequest k n bytes)

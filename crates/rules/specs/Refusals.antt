@@ -4,12 +4,13 @@ use Prim.Native.Nat.{ℕ, _+_, _^_}
 use mathlib.Core.List.{List, [], _∷_, _++_}
 use lib.ListN.{replicate}
 use Rattle.question.specs.Question.{Answer, given, refused, Worked, worked, after, bind, verdict}
+use Rattle.record.specs.Kind.{read}
 use Rattle.record.specs.Layout.{bytesOf}
 use Rattle.record.specs.Record.{requestFields}
 use Rattle.record.specs.declared.request.Request.{Request}
 use Rattle.rules.specs.Batch.{newStore}
 use Rattle.rules.specs.Replica.{State, Stepped, make, deliver, step}
-use Rattle.rules.specs.Sample.{settings, wroteTo, asked}
+use Rattle.rules.specs.Sample.{settings, asked}
 
 pub record Row : Type 0 where
   pub answer : Answer Worked
@@ -59,6 +60,10 @@ replica last count = record {
   last = record { 0 = last };
 }
 
+-- a read that fails question 11 alone
+abbrev valued : Request
+valued = record { kind = read; group = 1; process = 1; variable = 4; timestamp = record { 0 = 10 }; value = 9 }
+
 -- of the bytes of a request, at a local time
 abbrev handed : State → Request → ℕ → Answer State
 handed s r now = deliver s (bytesOf (requestFields r)) (record { 0 = now })
@@ -83,7 +88,7 @@ callRows =
     ∷ refuses 8 (handed (replica 0 0) (asked 3 1 10 4) 100)
     ∷ refuses 9 (handed (replica 0 0) (asked 1 3 10 4) 100)
     -- and they come before 12, 12 before 13, 13 before 14
-    ∷ refuses 10 (handed (replica 0 0) (wroteTo 0 1 1 10 7) (2 ^ 62 + 1))
+    ∷ refuses 11 (handed (replica 0 0) valued (2 ^ 62 + 1))
     ∷ refuses 12 (delivered (2 ^ 62 + 2) 0 (2 ^ 62 + 1))
     ∷ refuses 13 (delivered 100 64 99)
     -- the same of a step; room for 67 records
