@@ -1,94 +1,69 @@
 -- No call is refused with the number 0: where a C function answers 0, it gave what it was asked for.
-use Prim.Native.Nat.{ℕ, _+_}
+use Prim.Native.Nat.{ℕ, _<_}
 use mathlib.Core.Path.{_≡_, refl}
-use mathlib.Core.Bool.{Bool, true, false, cond, _&&_, and-eq-true-iff}
-use mathlib.Core.List.{List, [], _∷_}
+use mathlib.Core.Bool.{true, and-eq-true-iff}
+use mathlib.Core.List.{List, List·Memᴰ, List·Memᴰ·head, List·Memᴰ·tail}
 use native.Mathlib.Omega.{arith}
-use lib.Dec.{leb, ltb}
+use lib.Dec.{ltb}
 use borrow.Author.Tests.{ltb-true}
-use Rattle.question.specs.Question.{Question, _else_, Answer, given, refused, isGiven, ask, bind, unitQuestions}
-use Rattle.record.specs.Record.{fieldQuestions, readFields, writeFields, readRequest, readMessage, writeRequest, writeMessage}
+use Rattle.question.specs.Question.{Answer, given, refused, isGiven, Listed}
+use Rattle.record.specs.Record.{readRequest, readMessage, writeRequest, writeMessage}
 use Rattle.record.specs.declared.clock.LocalTime.{LocalTime}
-use Rattle.record.specs.declared.kind.Family.the-variants.{Requests, Messages}
 use Rattle.record.specs.declared.message.Message.{Message}
 use Rattle.record.specs.declared.request.Request.{Request}
+use Rattle.rules.specs.Lists.{every}
+use Rattle.rules.specs.Numbers.{makeNumbers, readRequestNumbers, readMessageNumbers, writeRequestNumbers, writeMessageNumbers, deliverNumbers, stepNumbers, voteNumbers, haltCountNumbers}
 use Rattle.rules.specs.declared.Settings.{Settings}
-use Rattle.rules.specs.Replica.{State, make, admit, deliver, step}
-use Rattle.rules.specs.Vote.{countsFor, support, elect, vote, haltCount}
 use Rattle.rules.specs.declared.Query.{Query}
+use Rattle.rules.specs.Replica.{State, make, deliver, step}
+use Rattle.rules.specs.Vote.{vote, haltCount}
+use Rattle.rules.proofs.Numbers.{read-request-numbers, read-message-numbers, write-request-numbers, write-message-numbers, make-numbers, deliver-numbers, step-numbers, vote-numbers, halt-count-numbers}
 use Rattle.export.specs.Result.{refusalOf}
 
 -- an answer of 0 is no refusal
 abbrev Told : {A : Type 0} → Answer A → Type 0
 Told answer = refusalOf answer ≡ 0 → isGiven answer ≡ true
 
--- no question has the number 0
-abbrev numbered : List Question → Bool
-numbered [] = true
-numbered ((holds else number) ∷ questions) = ltb 0 number && numbered questions
+above-zero : (numbers : List ℕ) {number : ℕ} → every (ltb 0) numbers ≡ true → List·Memᴰ number numbers → 0 < number
+above-zero numbers p (List·Memᴰ·head {x = x} {xs = xs} e) =
+    omega (arith, ltb-true 0 x (and-eq-true-iff (ltb 0 x) (every (ltb 0) xs) .0 p .0), e)
+above-zero numbers p (List·Memᴰ·tail {x = x} {xs = xs} m) = above-zero xs (and-eq-true-iff (ltb 0 x) (every (ltb 0) xs) .0 p .1) m
 
--- the number of a "no" is not 0, so the answer is that of what follows
-ask-told : {A : Type 0} (questions : List Question) (rest : Answer A) → numbered questions ≡ true → Told rest → Told (ask questions rest)
-unfolding ask
-ask-told [] rest n told = told
-ask-told ((true else number) ∷ questions) rest n told = ask-told questions rest (and-eq-true-iff (ltb 0 number) (numbered questions) .0 n .1) told
-ask-told ((false else number) ∷ questions) rest n told = λ e. absurd (omega (arith, ltb-true 0 number (and-eq-true-iff (ltb 0 number) (numbered questions) .0 n .0), e))
-
-bind-told : {A B : Type 0} (answer : Answer A) (rest : A → Answer B) → Told answer → ((a : A) → Told (rest a)) → Told (bind answer rest)
-bind-told (given a) rest told then = then a
-bind-told (refused number) rest told then = told
-
-cond-told : {A : Type 0} (test : Bool) (one other : Answer A) → Told one → Told other → Told (cond test one other)
-cond-told true one other told told′ = told
-cond-told false one other told told′ = told′
+-- a refusal has a number of its call's list, and 0 is in none
+listed-told : {A : Type 0} (numbers : List ℕ) (answer : Answer A) → every (ltb 0) numbers ≡ true → Listed numbers answer → Told answer
+listed-told numbers (given a) p h = λ e. refl
+listed-told numbers (refused number) p h = λ e. absurd (omega (arith, above-zero numbers p (h number refl), e))
 
 -- ── records ──
 
 module _ (k n : ℕ) (bytes : List ℕ) where
   pub read-request-told : Told (readRequest k n bytes)
-  unfolding readFields unitQuestions fieldQuestions
-  read-request-told = bind-told (readFields Requests k n bytes) _ (ask-told _ _ refl (λ e. refl)) (λ f e. refl)
+  read-request-told = listed-told readRequestNumbers _ refl (read-request-numbers k n bytes)
 
   pub read-message-told : Told (readMessage k n bytes)
-  unfolding readFields unitQuestions fieldQuestions
-  read-message-told = bind-told (readFields Messages k n bytes) _ (ask-told _ _ refl (λ e. refl)) (λ f e. refl)
+  read-message-told = listed-told readMessageNumbers _ refl (read-message-numbers k n bytes)
 
   pub write-request-told : (r : Request) → Told (writeRequest k n r bytes)
-  unfolding writeFields unitQuestions fieldQuestions
-  write-request-told r = ask-told _ _ refl (λ e. refl)
+  write-request-told r = listed-told writeRequestNumbers _ refl (write-request-numbers k n bytes r)
 
   pub write-message-told : (m : Message) → Told (writeMessage k n m bytes)
-  unfolding writeFields unitQuestions fieldQuestions
-  write-message-told m = ask-told _ _ refl (λ e. refl)
+  write-message-told m = listed-told writeMessageNumbers _ refl (write-message-numbers k n bytes m)
 
 -- ── the replica ──
 
 pub make-told : (u : Settings) (number : ℕ) → Told (make u number)
-unfolding make unitQuestions
-make-told u number = ask-told _ _ refl (λ e. refl)
+make-told u number = listed-told makeNumbers _ refl (make-numbers u number)
 
 pub deliver-told : (s : State) (bytes : List ℕ) (at : LocalTime) → Told (deliver s bytes at)
-unfolding deliver admit
-deliver-told s bytes at =
-    bind-told (admit s bytes at) _
-    (bind-told (readRequest (s .settings .k) (s .settings .groups) bytes) _ (read-request-told _ _ bytes) (λ r. ask-told _ _ refl (λ e. refl)))
-    (λ r e. refl)
+deliver-told s bytes at = listed-told deliverNumbers _ refl (deliver-numbers s bytes at)
 
 pub step-told : (s : State) (at : LocalTime) (output : List ℕ) → Told (step s at output)
-unfolding step
-step-told s at output = ask-told _ _ refl (λ e. refl)
+step-told s at output = listed-told stepNumbers _ refl (step-numbers s at output)
 
 -- ── the vote and the halt count ──
 
-elect-told : (k : ℕ) (test : Message → Bool) (list candidates : List Message) → Told (elect k test list candidates)
-unfolding elect
-elect-told k test list [] = λ e. absurd (omega (arith, e))
-elect-told k test list (m ∷ candidates) = cond-told (test m && leb (k + 1) (support k test list (m .value))) _ _ (λ e. refl) (elect-told k test list candidates)
-
 pub vote-told : (k n : ℕ) (q : Query) (list : List Message) → Told (vote k n q list)
-unfolding vote unitQuestions
-vote-told k n q list = ask-told _ _ refl (elect-told k (countsFor k n q) list list)
+vote-told k n q list = listed-told voteNumbers _ refl (vote-numbers k n q list)
 
 pub halt-count-told : (k n group process : ℕ) (list : List Message) → Told (haltCount k n group process list)
-unfolding haltCount unitQuestions
-halt-count-told k n group process list = ask-told _ _ refl (λ e. refl)
+halt-count-told k n group process list = listed-told haltCountNumbers _ refl (halt-count-numbers k n group process list)
