@@ -2,10 +2,11 @@
 -- that an error in those is seen in figures alone.
 use Prim.Native.Nat.{ℕ, _-_, _^_}
 use mathlib.Core.List.{List, [], _∷_, _++_, map}
+use lib.ListN.{replicate}
 use Rattle.question.specs.Question.{Answer, given, mapAnswer}
 use Rattle.record.specs.declared.message.Message.{Message}
 use Rattle.rules.specs.Lists.{upTo}
-use Rattle.rules.specs.Batch.{Store, valueOf, replyWith, haltAll}
+use Rattle.rules.specs.Batch.{Store, valueOf}
 use Rattle.rules.specs.Replica.{State, make, requestsOf}
 use Rattle.rules.specs.Run.{Call, run, arrivals}
 use Rattle.rules.specs.Machine.{machine, signedBy}
@@ -59,12 +60,18 @@ together n group t variable value = map (λ process. deliverAt 100 (wroteTo vari
 abbrev both : ℕ → ℕ → ℕ → List Call
 both t variable value = together 2 1 t variable value
 
--- a process of a group reads a variable at a timestamp, and the reply with a value
+-- a process of a group reads a variable at a timestamp
 abbrev reads : ℕ → ℕ → ℕ → ℕ → List Call
 reads group process t variable = deliverAt 100 (asked group process t variable) ∷ []
 
+-- the reply of replica 1 with a value, and its halts to some processes, in figures
 abbrev told : ℕ → ℕ → ℕ → ℕ → ℕ → Message
-told group process t variable value = replyWith value 1 (asked group process t variable)
+told group process t variable value =
+    record { kind = 3; group = group; process = process; replica = 1; variable = variable; timestamp = record { 0 = t }; value = value }
+
+abbrev stops : ℕ → ℕ → List ℕ → List Message
+stops group t processes =
+    map (λ process. record { kind = 4; group = group; process = process; replica = 1; variable = 0; timestamp = record { 0 = t }; value = 0 }) processes
 
 -- the greatest number of so many bits
 abbrev most : ℕ → ℕ
@@ -109,15 +116,19 @@ rows =
     -- a freeze keeps what was written; after it the reads of owner and guest are answered, two of a batch in order of arrival
     ∷ row settings
     (both 10 4 7 ++ both 20 5 8 ++ reads 2 2 5 4 ++ reads 2 1 5 0 ++ together 1 1 30 4 9 ++ both 40 4 9 ++ reads 1 2 50 4 ++ reads 1 1 50 0)
-    (0 ∷ 4 ∷ 5 ∷ []) (1 ∷ 7 ∷ 8 ∷ []) 2 (haltAll 1 1 1 (record { 0 = 30 }) ++ (told 1 2 50 4 7 ∷ told 1 1 50 0 1 ∷ [])) (told 2 2 5 4 7 ∷ told 2 1 5 0 1 ∷ [])
+    (0 ∷ 4 ∷ 5 ∷ []) (1 ∷ 7 ∷ 8 ∷ []) 2 (stops 1 30 (1 ∷ 2 ∷ []) ++ (told 1 2 50 4 7 ∷ told 1 1 50 0 1 ∷ [])) (told 2 2 5 4 7 ∷ told 2 1 5 0 1 ∷ [])
     -- writes alike but for the variable
-    ∷ row settings (together 1 1 10 4 7 ++ (deliverAt 100 (wroteTo 5 1 2 10 7) ∷ [])) (0 ∷ 4 ∷ 5 ∷ []) (1 ∷ 0 ∷ 0 ∷ []) 0 (haltAll 1 1 1 (record { 0 = 10 })) []
-    -- a guest's dissent, and then a write of the owner's
-    ∷ row settings (together 1 2 5 4 9 ++ both 10 4 7) (0 ∷ 4 ∷ []) (0 ∷ 7 ∷ []) 1 [] []
-    -- group 2 is the owner, and group 1 a guest
-    ∷ row second (together 2 1 5 4 9 ++ together 2 2 10 4 7 ++ reads 2 1 20 4) (0 ∷ 4 ∷ []) (0 ∷ 7 ∷ []) 1 (told 2 1 20 4 7 ∷ []) []
+    ∷ row settings (together 1 1 10 4 7 ++ (deliverAt 100 (wroteTo 5 1 2 10 7) ∷ [])) (0 ∷ 4 ∷ 5 ∷ []) (1 ∷ 0 ∷ 0 ∷ []) 0 (stops 1 10 (1 ∷ 2 ∷ [])) []
+    -- a write of 0 and a read, alike but for the kind
+    ∷ row settings (together 1 1 10 4 0 ++ reads 1 2 10 4) (0 ∷ 4 ∷ []) (1 ∷ 0 ∷ []) 0 (stops 1 10 (1 ∷ 2 ∷ [])) []
+    -- a guest's dissent, with the timestamp of a write of the owner's
+    ∷ row settings (together 1 2 10 4 9 ++ both 10 4 7) (0 ∷ 4 ∷ []) (0 ∷ 7 ∷ []) 1 [] []
+    -- group 2 is the owner, and group 1 a guest; the owner's halts
+    ∷ row second (together 2 1 5 4 9 ++ together 2 2 10 4 7 ++ reads 2 1 20 4 ++ together 1 2 30 4 8) (0 ∷ 4 ∷ []) (1 ∷ 7 ∷ []) 1 (told 2 1 20 4 7 ∷ stops 2 30 (1 ∷ 2 ∷ [])) []
     -- one process of one; four of four; three of four
     ∷ row (unit 0) (together 1 1 10 4 7) (0 ∷ 4 ∷ []) (0 ∷ 7 ∷ []) 1 [] []
     ∷ row (unit 3) (together 4 1 10 4 7) (0 ∷ 4 ∷ []) (0 ∷ 7 ∷ []) 1 [] []
-    ∷ row (unit 3) (together 3 1 10 4 7) (0 ∷ 4 ∷ []) (1 ∷ 0 ∷ []) 0 (haltAll 3 1 1 (record { 0 = 10 })) []
+    ∷ row (unit 3) (together 3 1 10 4 7) (0 ∷ 4 ∷ []) (1 ∷ 0 ∷ []) 0 (stops 1 10 (1 ∷ 2 ∷ 3 ∷ 4 ∷ [])) []
+    -- nothing arrived: every variable is 0
+    ∷ row settings [] (0 ∷ upTo 255) (replicate 256 0) 0 [] []
     ∷ []
