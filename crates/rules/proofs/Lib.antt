@@ -4,3 +4,4 @@ pub mod Units
 pub mod Edges
 pub mod Refusals
 pub mod Polls
+pub mod Strangers

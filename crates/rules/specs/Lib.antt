@@ -13,3 +13,4 @@ pub mod Edges
 pub mod Refusals
 pub mod RecordRefusals
 pub mod Polls
+pub mod Strangers
