@@ -4,3 +4,5 @@ pub mod Unit
 -- what is supposed can be met
 pub mod Lives
 pub mod Instances
+-- refusal numbers
+pub mod Numbers
