@@ -10,7 +10,7 @@ use Rattle.record.specs.declared.clock.LocalTime.{LocalTime}
 use Rattle.record.specs.declared.request.Request.{Request}
 use Rattle.question.proofs.Questions.{ask-through}
 use Rattle.rules.specs.Replica.{State, Stepped, newState, makeQuestions, make, admit, deliver, step}
-use Rattle.rules.specs.Run.{Call, delivery, turn, call, run, arrivalOf, arrivals, stepOf, stepTimes}
+use Rattle.rules.specs.Run.{Call, delivery, turn, messagesIn, call, run, arrivalOf, arrivals, stepOf, stepTimes}
 use Rattle.rules.specs.declared.Settings.{Settings}
 use Rattle.batch.specs.State.{stateOf}
 use Rattle.batch.specs.declared.state.Replica.{Replica}
@@ -62,7 +62,12 @@ module _ (u : Settings) (s : State) (settings : s .settings ≡ u) where
   unfolding call
   step-tells at output output′ (StepAnswer.Sent count) t (given d) e answer state content =
       let same : count ≡ d .count = cc in
-      record { state = rw e state; arrived = refl; step = rw e; sent = rw (e, settings, same, content) }
+      record {
+        state = rw e state;
+        arrived = refl;
+        step = rw e;
+        sent = ap (messagesIn (u .k) (u .groups) count) content ∙ rw (e, settings, same);
+      }
   step-tells at output output′ (StepAnswer.Refused number) t (refused q) e answer state content =
       record { state = rw e state; arrived = refl; step = rw e; sent = rw e }
   step-tells at output output′ (StepAnswer.Sent count) t (refused q) e answer state content = absurd (let z : _≡_ {A = ℕ} 0 1 = cc in omega arith)
