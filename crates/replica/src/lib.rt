@@ -2,8 +2,8 @@
 // says of the state that the struct stands for, for any value of any parameter.
 //
 // Read on in this order: crates/batch (the struct, and the batch of a group), crates/delivery (make
-// and deliver); then for a step `output` (the messages), `handle` (one batch), `stepping`. That any
-// run of these calls is the rules' run: specs/Run.antt says it, proofs/Calls.antt shows it.
+// and deliver); then for a step `output` (the messages), `handle` (one batch), `stepping`. What runs
+// of these calls amount to: crates/unit.
 mod handle;
 mod output;
 mod stepping;
