@@ -19,8 +19,9 @@ use Rattle.rules.specs.declared.Settings.{Settings}
 use Rattle.rules.specs.Replica.{State, Stepped, admit, arrive, deliver, ofGroup, visits, atTime, Written, written, putAll, stepped, step}
 use Rattle.rules.specs.Run.{Call, delivery, turn, messagesIn, sentBy, call, run, arrivalOf}
 use Rattle.rules.specs.declared.Pending.{Pending}
+use Rattle.laws.specs.Output.{recordBytes, HoldsRecords}
 use Rattle.laws.proofs.Step.{step-accepted, step-at-most-67}
-use Rattle.laws.proofs.Records.{recordBytes, written-records, read-records}
+use Rattle.laws.proofs.Records.{written-records, read-records}
 use Rattle.laws.proofs.Accepted.{Made, Proper, read-proper, admit-admitted, step-late, step-room}
 use Rattle.laws.proofs.Sound.{Sound, visits-soundly}
 
@@ -33,12 +34,6 @@ LentTo (turn now output) = Unit {0}
 
 abbrev pub AllLent : List Call → Type 0
 AllLent calls = (c : Call) → List·Memᴰ c calls → LentTo c
-
--- what stands in the output: as many records as were counted, those of the messages, before the old bytes, and they are read back
-pub record Wrote (u : Settings) (sent : List Message) (output : List ℕ) (d : Stepped) : Type 0 where
-  pub count : d .count ≡ length sent
-  pub records : d .output ≡ recordBytes sent ++ drop (recordSize * length sent) output
-  pub read : messagesIn (u .k) (u .groups) (d .count) (d .output) ≡ sent
 
 -- a call that is refused, a delivery that is accepted, a step that is
 pub data Act (u : Settings) (s : State) (c : Call) : Type 0 where
@@ -53,7 +48,7 @@ module _ (u : Settings) (me : ℕ) (ok : Made u me) where
 
   -- what an accepted step wrote: its answer counts what its visits send, and the records of that stand before the old bytes
   pub step-wrote : (s : State) (now : LocalTime) (output : List ℕ) {d : Stepped} → Sound u me s → step s now output ≡ given d
-      → Wrote u (visits (u .groups) now (atTime now s) .sent) output d
+      → HoldsRecords u (visits (u .groups) now (atTime now s) .sent) output d
   unfolding stepped
   step-wrote s now output {d} h e =
       let done : Effect State = visits (u .groups) now (atTime now s) in

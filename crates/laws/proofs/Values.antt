@@ -18,7 +18,7 @@ use Rattle.rules.specs.Replica.{State, requestsOf, batchAt, visits, atTime}
 use Rattle.rules.specs.Machine.{occurring}
 use Rattle.rules.specs.declared.Pending.{Pending}
 use Rattle.question.proofs.Tests.{both, within-true, in-within}
-use Rattle.laws.specs.Handled.{cleared, handled, storeWhen, batchSent, visitSent, stepSent}
+use Rattle.laws.specs.Handled.{cleared, handled, storeWhen, batchSent, visitSent, stepSent, ForHandled}
 use Rattle.laws.proofs.Lists.{map-in, flat-in, in-flat, upTo-in, in-upTo}
 use Rattle.laws.proofs.Least.{batchAt-in}
 use Rattle.laws.proofs.Verdict.{Said, replied, halted, handled-said, handle-view}
@@ -27,18 +27,13 @@ use Rattle.laws.proofs.Visited.{clearedRequests, request-cleared, clear
 use Rattle.laws.proofs.Sent.{step-sends}
 
 module _ (s : State) (now : LocalTime) where
-  -- a message for the batch of a handled request
-  abbrev pub ForHandled : Message → Type 0
-  ForHandled m =
-      (p : Pending) × List·Memᴰ p (s .pending) × (handled s now p ≡ true) × List·Memᴰ m (batchSent s now (p .request .group) (p .request .timestamp))
-
   -- whether a request is handled depends on its group and its timestamp
   same-handled : (p q : Pending) → p .request .group ≡ q .request .group → p .request .timestamp ≡ q .request .timestamp → handled s now p ≡ handled s now q
   same-handled p q of at = rw (of, at)
 
   -- of a timestamp that the visit of a group comes to
   visit-message : (m : Message) (g : ℕ) (t : Timestamp) → List·Memᴰ g (upTo (s .settings .groups))
-      → List·Memᴰ t (occurring (clearedRequests (s .settings .delta) now g (s .pending))) → List·Memᴰ m (batchSent s now g t) → ForHandled m
+      → List·Memᴰ t (occurring (clearedRequests (s .settings .delta) now g (s .pending))) → List·Memᴰ m (batchSent s now g t) → ForHandled s now m
   visit-message m g t i j k =
       let r = occurring-in (clearedRequests (s .settings .delta) now g (s .pending)) j in
       let p = request-cleared (s .settings .delta) now g (s .pending) (r .1) in
@@ -47,13 +42,13 @@ module _ (s : State) (now : LocalTime) where
       let bounds = upTo-in (s .settings .groups) i in
       (p .0, p .1, rw (of, in-within 1 (s .settings .groups) g (bounds .0) (bounds .1)) (p .3), rw (of, at) k)
 
-  there : (m : Message) → List·Memᴰ m (stepSent s now) → ForHandled m
+  there : (m : Message) → List·Memᴰ m (stepSent s now) → ForHandled s now m
   there m i =
       let g = flat-in (visitSent s now) (upTo (s .settings .groups)) i in
       let t = flat-in (batchSent s now (g .0)) (occurring (clearedRequests (s .settings .delta) now (g .0) (s .pending))) (g .2) in
       visit-message m (g .0) (t .0) (g .1) (t .1) (t .2)
 
-  back : (m : Message) → ForHandled m → List·Memᴰ m (stepSent s now)
+  back : (m : Message) → ForHandled s now m → List·Memᴰ m (stepSent s now)
   back m f =
       let g = f .0 .request .group in
       let h = both (within 1 (s .settings .groups) g) (cleared (s .settings .delta) now (s .pending) g (f .0 .request .timestamp)) (f .2) in
@@ -63,7 +58,7 @@ module _ (s : State) (now : LocalTime) where
       (in-flat (batchSent s now g) _ (in-occurring (clearedRequests (s .settings .delta) now g (s .pending)) r) (f .3))
 
   -- the messages are exactly those of the handled batches
-  pub sent-exactly : (m : Message) → List·Memᴰ m (visits (s .settings .groups) now (atTime now s) .sent) ↔ ForHandled m
+  pub sent-exactly : (m : Message) → List·Memᴰ m (visits (s .settings .groups) now (atTime now s) .sent) ↔ ForHandled s now m
   sent-exactly m = rw (step-sends s now) (there m, back m)
 
   -- a reply answers a handled request, with the value of its variable when its batch is handled

@@ -9,10 +9,12 @@ use Rattle.record.specs.declared.message.Message.{Message}
 use Rattle.rules.specs.Replica.{State, Stepped, newState, make, visits, atTime, step}
 use Rattle.rules.specs.Run.{Call, messagesIn, run}
 use Rattle.rules.specs.declared.Settings.{Settings}
+use Rattle.laws.specs.Handled.{ForHandled}
+use Rattle.laws.specs.Output.{HoldsRecords}
 use Rattle.laws.proofs.Accepted.{Made, make-made}
 use Rattle.laws.proofs.Sound.{Sound, new-sound}
-use Rattle.laws.proofs.Values.{ForHandled, sent-exactly}
-use Rattle.laws.proofs.Calls.{AllLent, Wrote, step-wrote, run-sound}
+use Rattle.laws.proofs.Values.{sent-exactly}
+use Rattle.laws.proofs.Calls.{AllLent, step-wrote, run-sound}
 
 module _ (u : Settings) (number : ℕ) (made : make u number ≡ given (newState u number)) (calls : List Call) (lent : AllLent calls)
     (now : LocalTime) (output : List ℕ) where
@@ -26,7 +28,7 @@ module _ (u : Settings) (number : ℕ) (made : make u number ≡ given (newState
   sound = run-sound u number ok calls (newState u number) (new-sound u number) lent
 
   -- as many records as the answer counts, those of the messages that its visits send, and then the bytes that stood there
-  pub run-wrote : {d : Stepped} → step reached now output ≡ given d → Wrote u (visits (u .groups) now (atTime now reached) .sent) output d
+  pub run-wrote : {d : Stepped} → step reached now output ≡ given d → HoldsRecords u (visits (u .groups) now (atTime now reached) .sent) output d
   run-wrote e = step-wrote u number ok reached now output sound e
 
   -- the messages that are read from those bytes are exactly those of the handled batches

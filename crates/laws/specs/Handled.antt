@@ -83,3 +83,8 @@ visitSent s now group =
 -- those of a step, by ascending group
 abbrev pub stepSent : State → LocalTime → List Message
 stepSent s now = flatMap (visitSent s now) (upTo (s .settings .groups))
+
+-- a message for the batch of a handled request
+abbrev pub ForHandled : State → LocalTime → Message → Type 0
+ForHandled s now m =
+    (p : Pending) × List·Memᴰ p (s .pending) × (handled s now p ≡ true) × List·Memᴰ m (batchSent s now (p .request .group) (p .request .timestamp))

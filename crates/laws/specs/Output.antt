@@ -1,0 +1,23 @@
+-- What an accepted step leaves in its output.
+use Prim.Native.Nat.{ℕ, _*_}
+use mathlib.Core.Path.{_≡_}
+use mathlib.Core.List.{List, [], _∷_, _++_}
+use lib.ListN.{length, drop}
+use Rattle.limits.specs.Limits.{recordSize}
+use Rattle.record.specs.Layout.{bytesOf}
+use Rattle.record.specs.Record.{messageFields}
+use Rattle.record.specs.declared.message.Message.{Message}
+use Rattle.rules.specs.Replica.{Stepped}
+use Rattle.rules.specs.Run.{messagesIn}
+use Rattle.rules.specs.declared.Settings.{Settings}
+
+-- the records of messages, one after the other
+abbrev pub recordBytes : List Message → List ℕ
+recordBytes [] = []
+recordBytes (m ∷ messages) = bytesOf (messageFields m) ++ recordBytes messages
+
+-- as many records as are counted, those of the messages, and behind them the bytes that stood there; the messages are read back
+pub record HoldsRecords (u : Settings) (sent : List Message) (output : List ℕ) (d : Stepped) : Type 0 where
+  pub count : d .count ≡ length sent
+  pub records : d .output ≡ recordBytes sent ++ drop (recordSize * length sent) output
+  pub read : messagesIn (u .k) (u .groups) (d .count) (d .output) ≡ sent
