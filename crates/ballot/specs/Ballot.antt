@@ -7,7 +7,7 @@ use lib.Dec.{eqb, leb}
 use lib.ListN.{length, getD, set, replicate}
 use Rattle.limits.specs.Limits.{maxList}
 use Rattle.question.specs.Question.{Question, _else_, Answer, given, refused, ask, unitQuestions}
-use Rattle.record.specs.declared.clock.Timestamp.{Timestamp}
+use Rattle.layout.specs.declared.clock.Timestamp.{Timestamp}
 use Rattle.record.specs.declared.message.Message.{Message}
 use Rattle.rules.specs.Lists.{tally}
 use Rattle.rules.specs.Vote.{countsFor, countsAsHalt}

@@ -4,7 +4,7 @@ use mathlib.Core.Path.{_≡_, refl, _∙_, ap}
 use mathlib.Core.List.{List}
 use Rattle.question.specs.Question.{given, refused, ask, unitQuestions}
 use Rattle.record.specs.Record.{readFields}
-use Rattle.record.specs.declared.clock.LocalTime.{LocalTime}
+use Rattle.layout.specs.declared.clock.LocalTime.{LocalTime}
 use Rattle.rules.specs.Replica.{admit, deliver, visits, putAll, Stepped, atTime, stepped, step}
 use Rattle.laws.proofs.Step.{step-accepted}
 use Rattle.delivery.specs.Made.{blankState}

@@ -8,7 +8,7 @@ use lib.Dec.{ltb}
 use borrow.Author.Tests.{ltb-true}
 use Rattle.question.specs.Question.{Answer, given, refused, isGiven, Listed}
 use Rattle.record.specs.Record.{readRequest, readMessage, writeRequest, writeMessage}
-use Rattle.record.specs.declared.clock.LocalTime.{LocalTime}
+use Rattle.layout.specs.declared.clock.LocalTime.{LocalTime}
 use Rattle.record.specs.declared.message.Message.{Message}
 use Rattle.record.specs.declared.request.Request.{Request}
 use Rattle.rules.specs.Lists.{every}

@@ -8,7 +8,7 @@ use native.Mathlib.Omega.{arith}
 use lib.ListN.{length}
 use borrow.Author.Tests.{eqb-true, leb-true, lt-ltb}
 use Rattle.question.specs.Question.{Answer, given, refused, isGiven}
-use Rattle.record.specs.declared.clock.LocalTime.{LocalTime}
+use Rattle.layout.specs.declared.clock.LocalTime.{LocalTime}
 use Rattle.rules.specs.Lists.{some}
 use Rattle.rules.specs.Batch.{Effect}
 use Rattle.rules.specs.declared.Settings.{Settings}

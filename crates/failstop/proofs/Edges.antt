@@ -11,8 +11,8 @@ use lib.Dec.{eqb, leb}
 use lib.ListN.{replicate}
 use borrow.Author.Tests.{eqb-true, eqb-false, ltb-false, leb-true, leb-false}
 use Rattle.question.specs.Question.{given, ask, unitQuestions}
-use Rattle.record.specs.Number.{number, digits}
-use Rattle.record.specs.Layout.{fieldsOf, bytesOf}
+use Rattle.layout.specs.Number.{number, digits}
+use Rattle.layout.specs.Layout.{fieldsOf, bytesOf}
 use Rattle.record.specs.Record.{fieldQuestions, readFields, writeFields}
 use Rattle.record.specs.declared.message.Message.{Message}
 use Rattle.rules.specs.Batch.{valueOf, failed, verdictOf, replyWith, handle}

@@ -7,7 +7,7 @@ use borrow.Author.Tests.{eqb-true, eq-eqb}
 use Rattle.question.specs.Question.{given, isGiven, worked}
 use Rattle.record.specs.Kind.{reply, halt}
 use Rattle.record.specs.Record.{messageFields, fieldQuestions, passes}
-use Rattle.record.specs.declared.clock.Timestamp.{Timestamp}
+use Rattle.layout.specs.declared.clock.Timestamp.{Timestamp}
 use Rattle.record.specs.declared.kind.Family.the-variants.{Messages}
 use Rattle.record.specs.declared.message.Message.{Message}
 use Rattle.rules.specs.Batch.{haltTo}

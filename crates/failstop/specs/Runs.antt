@@ -4,8 +4,8 @@ use mathlib.Core.Path.{_≡_}
 use mathlib.Core.Bool.{Bool}
 use mathlib.Core.List.{List, List·Memᴰ}
 use Rattle.question.specs.Question.{given}
-use Rattle.record.specs.Number.{Bytes}
-use Rattle.record.specs.declared.clock.LocalTime.{LocalTime}
+use Rattle.layout.specs.Number.{Bytes}
+use Rattle.layout.specs.declared.clock.LocalTime.{LocalTime}
 use Rattle.rules.specs.Replica.{newState, make}
 use Rattle.rules.specs.Run.{Call, delivery, run, arrivals, stepTimes}
 use Rattle.rules.specs.declared.Settings.{Settings}

@@ -10,16 +10,16 @@ use lib.Seq.{getD-take, getD-drop, length-take-le}
 use borrow.Author.Tests.{eqb-true, leb-true, leb-false, ltb-true}
 use Rattle.limits.specs.Limits.{maxDelta, places, outputSize}
 use Rattle.question.specs.Question.{_else_, given, ask, within, unitQuestions}
-use Rattle.record.specs.Number.{Bytes, number as says}
-use Rattle.record.specs.Layout.{fieldsOf}
+use Rattle.layout.specs.Number.{Bytes, number as says}
+use Rattle.layout.specs.Layout.{fieldsOf}
 use Rattle.record.specs.Kind.{write, isWrite}
 use Rattle.record.specs.Record.{requestIn, readFields, readRequest}
 use Rattle.record.specs.declared.kind.Family.the-variants.{Requests}
-use Rattle.record.specs.declared.clock.LocalTime.{LocalTime}
-use Rattle.record.specs.declared.fields.Fields.{Fields}
+use Rattle.layout.specs.declared.clock.LocalTime.{LocalTime}
+use Rattle.layout.specs.declared.fields.Fields.{Fields}
 use Rattle.record.specs.declared.request.Request.{Request}
 use Rattle.question.proofs.Questions.{AllYes, all-yes-parts, ask-all-yes, ask-through, bind-given, same-given}
-use Rattle.record.proofs.Numbers.{number-below}
+use Rattle.layout.proofs.Numbers.{number-below}
 use Rattle.record.proofs.Facts.{variable-small, write-variable}
 use Rattle.record.proofs.Reading.{read-readable, read-is}
 use Rattle.rules.specs.declared.Settings.{Settings}

@@ -6,7 +6,7 @@ use mathlib.Core.List.{List, [], _++_, flatMap, List·Memᴰ}
 use native.Mathlib.Omega.{arith}
 use lib.Dec.{eqb}
 use borrow.Author.Tests.{eqb-true}
-use Rattle.record.specs.declared.clock.Timestamp.{Timestamp}
+use Rattle.layout.specs.declared.clock.Timestamp.{Timestamp}
 use Rattle.record.specs.declared.request.Request.{Request}
 use Rattle.record.specs.declared.message.Message.{Message}
 use Rattle.rules.specs.Lists.{keep}

@@ -8,8 +8,8 @@ use native.Mathlib.Omega.{arith}
 use lib.ListN.{length, drop, length-append}
 use Rattle.limits.specs.Limits.{places, recordSize}
 use Rattle.question.specs.Question.{Answer, given, refused, unitQuestions}
-use Rattle.record.specs.Number.{Bytes}
-use Rattle.record.specs.declared.clock.LocalTime.{LocalTime}
+use Rattle.layout.specs.Number.{Bytes}
+use Rattle.layout.specs.declared.clock.LocalTime.{LocalTime}
 use Rattle.record.specs.declared.request.Request.{Request}
 use Rattle.record.specs.declared.message.Message.{Message}
 use Rattle.question.proofs.Questions.{AllYes}

@@ -7,8 +7,8 @@ use mathlib.Core.List.{List, List·Memᴰ, List·Memᴰ·not-nil}
 use native.Mathlib.Omega.{arith}
 use lib.Dec.{leb}
 use borrow.Author.Tests.{eqb-true, eq-eqb, leb-true, le-leb}
-use Rattle.record.specs.declared.clock.Timestamp.{Timestamp}
-use Rattle.record.specs.declared.clock.LocalTime.{LocalTime}
+use Rattle.layout.specs.declared.clock.Timestamp.{Timestamp}
+use Rattle.layout.specs.declared.clock.LocalTime.{LocalTime}
 use Rattle.rules.specs.Lists.{keep}
 use Rattle.rules.specs.Replica.{stamped, ofGroup, groupTimestamp, inBatch, batchAt, batchOf, others, isStable}
 use Rattle.rules.specs.declared.Pending.{Pending}

@@ -9,8 +9,8 @@ use lib.Dec.{eqb}
 use lib.ListN.{length}
 use borrow.Author.Tests.{eqb-true, eqb-false, not-true}
 use Rattle.question.specs.Question.{given, within}
-use Rattle.record.specs.declared.clock.Timestamp.{Timestamp}
-use Rattle.record.specs.declared.clock.LocalTime.{LocalTime}
+use Rattle.layout.specs.declared.clock.Timestamp.{Timestamp}
+use Rattle.layout.specs.declared.clock.LocalTime.{LocalTime}
 use Rattle.rules.specs.Lists.{keep}
 use Rattle.rules.specs.Replica.{State, Stepped, stamped, ofGroup, groupTimestamp, inBatch, batchAt, batchOf, others, isStable, handleBatch, visit, visits, atTime, stepped, step}
 use Rattle.rules.specs.declared.Pending.{Pending}

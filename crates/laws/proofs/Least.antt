@@ -8,8 +8,8 @@ use native.Mathlib.Omega.{arith}
 use lib.Dec.{eqb, leb}
 use lib.ListN.{length}
 use borrow.Author.Tests.{eqb-true, eq-eqb, leb-true, leb-false, ltb-true, not-true}
-use Rattle.record.specs.declared.clock.Timestamp.{Timestamp}
-use Rattle.record.specs.declared.clock.LocalTime.{LocalTime}
+use Rattle.layout.specs.declared.clock.Timestamp.{Timestamp}
+use Rattle.layout.specs.declared.clock.LocalTime.{LocalTime}
 use Rattle.record.specs.declared.request.Request.{Request}
 use Rattle.rules.specs.Lists.{keep}
 use Rattle.rules.specs.Replica.{stamped, lowest, least, requestsOf, ofGroup, groupTimestamp, batchOf, others, earliest, isStable, inBatch, batchAt}

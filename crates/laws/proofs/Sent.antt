@@ -8,8 +8,8 @@ use lib.Dec.{eqb, ltb}
 use lib.ListN.{length}
 use borrow.Author.Tests.{eqb-true, eqb-false, ne-eqb, lt-ltb, le-ltb}
 use Rattle.question.specs.Question.{given, within}
-use Rattle.record.specs.declared.clock.Timestamp.{Timestamp}
-use Rattle.record.specs.declared.clock.LocalTime.{LocalTime}
+use Rattle.layout.specs.declared.clock.Timestamp.{Timestamp}
+use Rattle.layout.specs.declared.clock.LocalTime.{LocalTime}
 use Rattle.record.specs.declared.request.Request.{Request}
 use Rattle.rules.specs.Lists.{keep, upTo}
 use Rattle.rules.specs.Batch.{Store, Effect}

@@ -7,7 +7,7 @@ use native.Mathlib.Omega.{arith}
 use lib.Dec.{eqb}
 use lib.ListN.{length}
 use borrow.Author.Tests.{eqb-true, eqb-false}
-use Rattle.record.specs.declared.clock.LocalTime.{LocalTime}
+use Rattle.layout.specs.declared.clock.LocalTime.{LocalTime}
 use Rattle.rules.specs.Lists.{keep}
 use Rattle.rules.specs.Replica.{State, ofGroup, batchOf, isStable, handleBatch, visit, visits}
 use Rattle.rules.specs.declared.Pending.{Pending}

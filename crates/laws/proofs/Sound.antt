@@ -10,8 +10,8 @@ use lib.ListN.{length, getD, set, replicate, length-replicate}
 use Rattle.limits.specs.Limits.{places}
 use Rattle.record.specs.Kind.{isOf}
 use Rattle.record.specs.Record.{messageFields, allowsVariable, allowsValue, sparesZero}
-use Rattle.record.specs.declared.clock.Timestamp.{Timestamp}
-use Rattle.record.specs.declared.clock.LocalTime.{LocalTime}
+use Rattle.layout.specs.declared.clock.Timestamp.{Timestamp}
+use Rattle.layout.specs.declared.clock.LocalTime.{LocalTime}
 use Rattle.record.specs.declared.kind.Family.the-variants.{Messages}
 use Rattle.record.specs.declared.message.Message.{Message}
 use Rattle.record.specs.declared.request.Request.{Request}

@@ -8,12 +8,12 @@ use native.Mathlib.Omega.{arith}
 use lib.ListN.{length, replicate}
 use Rattle.limits.specs.Limits.{maxK, maxSent, places, outputSize}
 use Rattle.question.specs.Question.{given, ask, mapAnswer, unitQuestions}
-use Rattle.record.specs.Number.{digits}
-use Rattle.record.specs.Layout.{bytesOf}
+use Rattle.layout.specs.Number.{digits}
+use Rattle.layout.specs.Layout.{bytesOf}
 use Rattle.record.specs.Kind.{read, write}
 use Rattle.record.specs.Record.{fieldQuestions, writeFields}
-use Rattle.record.specs.declared.clock.Timestamp.{Timestamp}
-use Rattle.record.specs.declared.clock.LocalTime.{LocalTime}
+use Rattle.layout.specs.declared.clock.Timestamp.{Timestamp}
+use Rattle.layout.specs.declared.clock.LocalTime.{LocalTime}
 use Rattle.record.specs.declared.message.Message.{Message}
 use Rattle.question.proofs.Questions.{ask-through, same-given}
 use Rattle.rules.specs.Batch.{verdictOf, newStore, handle}

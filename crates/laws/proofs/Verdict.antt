@@ -9,7 +9,7 @@ use lib.Dec.{eqb}
 use lib.ListN.{length}
 use borrow.Author.Tests.{eqb-true, eq-eqb, not-true}
 use Rattle.record.specs.Kind.{isWrite, sameWrite}
-use Rattle.record.specs.declared.clock.Timestamp.{Timestamp}
+use Rattle.layout.specs.declared.clock.Timestamp.{Timestamp}
 use Rattle.record.specs.declared.request.Request.{Request}
 use Rattle.record.specs.declared.message.Message.{Message}
 use Rattle.rules.specs.Lists.{every, upTo}

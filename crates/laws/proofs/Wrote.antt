@@ -4,7 +4,7 @@ use mathlib.Core.Path.{_≡_, subst}
 use mathlib.Core.Logic.{_↔_}
 use mathlib.Core.List.{List, List·Memᴰ}
 use Rattle.question.specs.Question.{given}
-use Rattle.record.specs.declared.clock.LocalTime.{LocalTime}
+use Rattle.layout.specs.declared.clock.LocalTime.{LocalTime}
 use Rattle.record.specs.declared.message.Message.{Message}
 use Rattle.rules.specs.Replica.{State, Stepped, newState, make, visits, atTime, step}
 use Rattle.rules.specs.Run.{Call, messagesIn, run}

@@ -4,7 +4,7 @@ use mathlib.Core.Path.{_≡_}
 use mathlib.Core.List.{List, [], _∷_, _++_}
 use lib.ListN.{length, drop}
 use Rattle.limits.specs.Limits.{recordSize}
-use Rattle.record.specs.Layout.{bytesOf}
+use Rattle.layout.specs.Layout.{bytesOf}
 use Rattle.record.specs.Record.{messageFields}
 use Rattle.record.specs.declared.message.Message.{Message}
 use Rattle.rules.specs.Replica.{Stepped}

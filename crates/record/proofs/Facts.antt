@@ -10,7 +10,7 @@ use Rattle.question.proofs.Questions.{AllYes, all-yes-parts, all-yes-both}
 use Rattle.question.proofs.Tests.{both, other, within-true}
 use Rattle.record.specs.Kind.{write, isOf, rowOf}
 use Rattle.record.specs.Record.{hasSender, senderQuestions, allowsVariable, sparesZero, allowsValue, contentQuestions, fieldQuestions}
-use Rattle.record.specs.declared.fields.Fields.{Fields}
+use Rattle.layout.specs.declared.fields.Fields.{Fields}
 use Rattle.record.specs.declared.kind.Family.{Family}
 use Rattle.record.specs.declared.kind.Family.the-variants.{Messages}
 use Rattle.record.proofs.Rows.{greatest-small, bytes6-spare, bytes20-spare}

@@ -10,9 +10,9 @@ use Rattle.question.specs.Question.{Question, _else_, Answer, given, refused, W
 use Rattle.question.specs.declared.Outcome.{Outcome}
 use Rattle.question.specs.declared.Outcome.the-variants.{Done, Refused}
 use Rattle.question.proofs.Questions.{AllYes, all-yes-parts, all-yes-both, ask-chain, ask-yes, ask-all-yes, ask-map, ask-verdict, next-asked, same-given}
-use Rattle.record.specs.Layout.{fieldsOf, bytesOf}
+use Rattle.layout.specs.Layout.{fieldsOf, bytesOf}
 use Rattle.record.specs.Record.{fieldQuestions, readQuestions, readFields, writeQuestions, writeFields}
-use Rattle.record.specs.declared.fields.Fields.{Fields}
+use Rattle.layout.specs.declared.fields.Fields.{Fields}
 use Rattle.record.specs.declared.kind.Family.{Family}
 use Rattle.record.proofs.Facts.{FieldFacts, field-facts, facts-asked}
 

@@ -11,20 +11,20 @@ use Rattle.limits.specs.Limits.{recordSize}
 use Rattle.question.specs.Question.{Answer, given, mapAnswer, unitQuestions}
 use Rattle.question.proofs.Questions.{AllYes, same-given, bind-given}
 use Rattle.question.proofs.Tests.{within-true, unit-facts}
-use Rattle.record.specs.Number.{Bytes}
-use Rattle.record.specs.Layout.{fieldsOf, bytesOf}
+use Rattle.layout.specs.Number.{Bytes}
+use Rattle.layout.specs.Layout.{fieldsOf, bytesOf}
 use Rattle.record.specs.Kind.{familyNumber, familyOf}
 use Rattle.record.specs.Record.{readFields, writeFields}
 use Rattle.record.specs.Record.{requestIn, requestFields, readRequest, writeRequest}
 use Rattle.record.specs.Record.{messageIn, messageFields, readMessage, writeMessage}
-use Rattle.record.specs.declared.fields.Fields.{Fields}
+use Rattle.layout.specs.declared.fields.Fields.{Fields}
 use Rattle.record.specs.declared.kind.Family.{Family}
 use Rattle.record.specs.declared.kind.Family.the-variants.{Requests, Messages, Neither}
 use Rattle.record.specs.declared.request.Request.{Request}
 use Rattle.record.specs.declared.message.Message.{Message}
 use Rattle.record.proofs.Rows.{kind-small}
 use Rattle.record.proofs.Facts.{FieldFacts, variable-small, spare6-zero, spare20-zero, no-sender, message-sender}
-use Rattle.record.proofs.Layouts.{InRange, length-bytes-of, fields-of-bytes, bytes-of-fields}
+use Rattle.layout.proofs.Layouts.{InRange, length-bytes-of, fields-of-bytes, bytes-of-fields}
 use Rattle.record.proofs.Reading.{Readable, Writable, read-given, read-readable, read-is, write-given, write-writable}
 
 -- ── of fields, for either family ──

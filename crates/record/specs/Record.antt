@@ -7,9 +7,9 @@ use lib.Dec.{eqb, leb}
 use lib.ListN.{length, drop}
 use Rattle.limits.specs.Limits.{recordSize}
 use Rattle.question.specs.Question.{Question, _else_, Answer, given, refused, ask, mapAnswer, allYes, within, unitQuestions}
-use Rattle.record.specs.Layout.{fieldsOf, bytesOf}
+use Rattle.layout.specs.Layout.{fieldsOf, bytesOf}
 use Rattle.record.specs.Kind.{isOf, rowOf}
-use Rattle.record.specs.declared.fields.Fields.{Fields}
+use Rattle.layout.specs.declared.fields.Fields.{Fields}
 use Rattle.record.specs.declared.kind.Family.{Family}
 use Rattle.record.specs.declared.kind.Family.the-variants.{Requests, Messages, Neither}
 use Rattle.record.specs.declared.request.Request.{Request}

@@ -1,16 +1,19 @@
 // What is asked of a record that is read or written, requests and messages alike.
 ghost use mathlib.Core.Path.{_≡_};
+ghost use Prim.Native.Nat.{_≤_};
 ghost use mathlib.Core.List.{[], _∷_, _++_};
 ghost use lib.Dec.{eqb};
+ghost use lib.ListN.{length, drop};
 ghost use Rattle.limits.specs.Limits.{recordSize};
-ghost use Rattle.question.specs.Question.{_else_, given, worked, ask, outcome, unitQuestions};
+ghost use Rattle.question.specs.Question.{_else_, given, worked, ask, next, after, outcome, unitQuestions};
+ghost use Rattle.layout.specs.Layout.{bytesOf};
 ghost use Rattle.record.specs.Kind.{rowOf};
 ghost use Rattle.record.specs.Record.{hasSender, senderQuestions, allowsVariable, sparesZero, allowsValue, partyQuestions, contentQuestions, fieldQuestions, writeQuestions};
-use crate::fields::Fields;
 use crate::kind::Family;
 use crate::kind::Row;
 use crate::kind::is_of;
 use crate::kind::row_of;
+use layout::Fields;
 use limits::RECORD;
 use question::Outcome;
 use question::check_unit;
@@ -116,4 +119,15 @@ pub(crate) fn check_write(family: Family, k: u8, n: u8, f: Fields, room: usize) 
         return Outcome::Refused(15);
     }
     Outcome::Done
+}
+
+// Writes the fields unless the questions ended in a refusal; they asked for the room.
+pub(crate) fn put_unless_refused(f: Fields, o: Outcome, destination: &mut [u8])
+    requires { ⌜ (outcome o ≡ given worked → recordSize ≤ length (now destination)) ⌝ }
+    ensures { λ _. ⌜ now (destination .exit) ≡ after (now (destination .entry)) (next (outcome o) (given (bytesOf f ++ drop recordSize (now (destination .entry))))) ⌝ }
+{
+    match o {
+        Outcome::Done => f.put(destination),
+        Outcome::Refused(_) => {}
+    }
 }

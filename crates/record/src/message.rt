@@ -5,9 +5,10 @@ ghost use Rattle.record.specs.Record.{messageIn, messageFields, messageA
 use crate::check::check_fields;
 use crate::check::check_length;
 use crate::check::check_write;
-use crate::clock::Timestamp;
-use crate::fields::Fields;
+use crate::check::put_unless_refused;
 use crate::kind::Family;
+use layout::Fields;
+use layout::Timestamp;
 use question::Outcome;
 
 #[repr(C)]
@@ -107,6 +108,6 @@ pub fn write_message(k: u8, n: u8, m: Message, destination: &mut [u8]) -> Outcom
 {
     let f = m.fields();
     let o = check_write(Family::Messages, k, n, f, destination.len());
-    f.put_unless_refused(o, destination);
+    put_unless_refused(f, o, destination);
     o
 }

@@ -7,11 +7,12 @@ ghost use Rattle.record.specs.Record.{requestIn, requestFields, requestA
 use crate::check::check_fields;
 use crate::check::check_length;
 use crate::check::check_write;
-use crate::clock::Timestamp;
-use crate::fields::Fields;
+use crate::check::put_unless_refused;
 use crate::kind::Family;
 use crate::kind::READ;
 use crate::kind::WRITE;
+use layout::Fields;
+use layout::Timestamp;
 use question::Outcome;
 
 #[repr(C)]
@@ -110,6 +111,6 @@ pub fn write_request(k: u8, n: u8, r: Request, destination: &mut [u8]) -> Outcom
 {
     let f = r.fields();
     let o = check_write(Family::Requests, k, n, f, destination.len());
-    f.put_unless_refused(o, destination);
+    put_unless_refused(f, o, destination);
     o
 }

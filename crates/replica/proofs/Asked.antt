@@ -4,7 +4,7 @@ use mathlib.Core.Path.{_≡_, sym}
 use mathlib.Core.List.{List}
 use lib.ListN.{length}
 use Rattle.question.specs.Question.{Answer, given, Worked, worked, ask, next}
-use Rattle.record.specs.declared.clock.LocalTime.{LocalTime}
+use Rattle.layout.specs.declared.clock.LocalTime.{LocalTime}
 use Rattle.rules.specs.Replica.{State, stepQuestions, stepped, step}
 use Rattle.question.proofs.Questions.{next-asked}
 

@@ -5,7 +5,7 @@ use mathlib.Core.List.{List}
 use contract.Lifetimes.{Lfts}
 use denote.Ref.{RefT}
 use Rattle.question.specs.Question.{after, mapAnswer}
-use Rattle.record.specs.declared.clock.LocalTime.{LocalTime}
+use Rattle.layout.specs.declared.clock.LocalTime.{LocalTime}
 use Rattle.rules.specs.Replica.{step}
 use Rattle.batch.specs.State.{stateOf}
 use Rattle.batch.specs.declared.state.Replica.{Replica}

@@ -3,7 +3,7 @@ use Prim.Native.Nat.{ℕ}
 use mathlib.Core.Path.{_≡_, _∙_}
 use mathlib.Core.Bool.{Bool, true, false, not}
 use mathlib.Core.List.{List, map}
-use Rattle.record.specs.declared.clock.Timestamp.{Timestamp}
+use Rattle.layout.specs.declared.clock.Timestamp.{Timestamp}
 use Rattle.record.specs.declared.request.Request.{Request}
 use Rattle.rules.specs.Lists.{keep}
 use Rattle.rules.specs.Batch.{Store, Effect, still, perform, fail, allReads, unanimous, firstOf, verdictOf, replyTo, haltAll, mayChange, handle}

@@ -2,7 +2,7 @@
 use Prim.Native.Nat.{ℕ}
 use mathlib.Core.Path.{_≡_, refl, sym, ap, _∙_}
 use mathlib.Core.List.{List, _++_}
-use Rattle.record.specs.declared.clock.LocalTime.{LocalTime}
+use Rattle.layout.specs.declared.clock.LocalTime.{LocalTime}
 use Rattle.rules.specs.Batch.{Effect, still, follow}
 use Rattle.rules.specs.Replica.{State, Written, written, putAll, Stepped, visits, atTime, stepped}
 use Rattle.rules.specs.declared.Settings.{Settings}

@@ -2,8 +2,8 @@
 use mathlib.Core.Path.{_≡_, refl}
 use mathlib.Core.List.{map}
 use Rattle.question.specs.Question.{ask, unitQuestions}
-use Rattle.record.specs.Number.{number, digits}
-use Rattle.record.specs.Layout.{fieldsOf, bytesOf}
+use Rattle.layout.specs.Number.{number, digits}
+use Rattle.layout.specs.Layout.{fieldsOf, bytesOf}
 use Rattle.record.specs.Record.{fieldQuestions, readFields, writeFields}
 use Rattle.rules.specs.Batch.{verdictOf, handle}
 use Rattle.rules.specs.Replica.{make, admit, deliver, handleBatch, visit, visits, put, putAll, stepped, step}

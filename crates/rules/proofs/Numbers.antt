@@ -7,8 +7,8 @@ use lib.Dec.{leb}
 use Rattle.question.specs.Question.{numbersOf, Listed, unitQuestions}
 use Rattle.question.proofs.Questions.{given-listed, ask-listed, bind-listed, cond-listed}
 use Rattle.record.specs.Record.{fieldQuestions, readQuestions, writeQuestions, readFields, writeFields, readRequest, readMessage, writeRequest, writeMessage}
-use Rattle.record.specs.declared.clock.LocalTime.{LocalTime}
-use Rattle.record.specs.declared.fields.Fields.{Fields}
+use Rattle.layout.specs.declared.clock.LocalTime.{LocalTime}
+use Rattle.layout.specs.declared.fields.Fields.{Fields}
 use Rattle.record.specs.declared.kind.Family.the-variants.{Requests, Messages}
 use Rattle.record.specs.declared.message.Message.{Message}
 use Rattle.record.specs.declared.request.Request.{Request}

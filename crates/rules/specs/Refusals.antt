@@ -5,7 +5,7 @@ use mathlib.Core.List.{List, [], _∷_, _++_}
 use lib.ListN.{replicate}
 use Rattle.question.specs.Question.{Answer, given, refused, Worked, worked, after, bind, verdict}
 use Rattle.record.specs.Kind.{read}
-use Rattle.record.specs.Layout.{bytesOf}
+use Rattle.layout.specs.Layout.{bytesOf}
 use Rattle.record.specs.Record.{requestFields}
 use Rattle.record.specs.declared.request.Request.{Request}
 use Rattle.rules.specs.Batch.{newStore}

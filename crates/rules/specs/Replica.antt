@@ -7,8 +7,8 @@ use lib.ListN.{length, take, drop}
 use Rattle.limits.specs.Limits.{maxDelta, maxTime, places, recordSize, outputSize}
 use Rattle.question.specs.Question.{Question, _else_, Answer, given, refused, ask, bind, mapAnswer, within, unitQuestions}
 use Rattle.record.specs.Record.{readRequest, writeMessage}
-use Rattle.record.specs.declared.clock.Timestamp.{Timestamp}
-use Rattle.record.specs.declared.clock.LocalTime.{LocalTime}
+use Rattle.layout.specs.declared.clock.Timestamp.{Timestamp}
+use Rattle.layout.specs.declared.clock.LocalTime.{LocalTime}
 use Rattle.record.specs.declared.request.Request.{Request}
 use Rattle.record.specs.declared.message.Message.{Message}
 use Rattle.rules.specs.Lists.{keep}

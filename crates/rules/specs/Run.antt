@@ -7,7 +7,7 @@ use lib.ListN.{take, drop}
 use Rattle.limits.specs.Limits.{recordSize}
 use Rattle.question.specs.Question.{Answer, given, refused, isGiven, after}
 use Rattle.record.specs.Record.{readMessage}
-use Rattle.record.specs.declared.clock.LocalTime.{LocalTime}
+use Rattle.layout.specs.declared.clock.LocalTime.{LocalTime}
 use Rattle.record.specs.declared.request.Request.{Request}
 use Rattle.record.specs.declared.message.Message.{Message}
 use Rattle.rules.specs.Batch.{Effect, still, follow}

@@ -6,7 +6,7 @@ use mathlib.Core.List.{List, map, List·Memᴰ, List·Memᴰ·cases-cons, List·
 use native.Mathlib.Omega.{arith}
 use Rattle.question.specs.Question.{Answer, given, refused, worked, after, mapAnswer, verdict, outcome}
 use Rattle.question.specs.declared.Outcome.{Outcome}
-use Rattle.record.specs.declared.clock.LocalTime.{LocalTime}
+use Rattle.layout.specs.declared.clock.LocalTime.{LocalTime}
 use Rattle.record.specs.declared.request.Request.{Request}
 use Rattle.question.proofs.Questions.{ask-through}
 use Rattle.rules.specs.Replica.{State, Stepped, newState, makeQuestions, make, admit, deliver, step}

@@ -10,7 +10,7 @@ use denote.Ref.{RefT}
 use Rattle.limits.specs.Limits.{places}
 use Rattle.question.specs.Question.{Answer, given, refused, after, mapAnswer, verdict, outcome}
 use Rattle.question.specs.declared.Outcome.{Outcome}
-use Rattle.record.specs.declared.clock.LocalTime.{LocalTime}
+use Rattle.layout.specs.declared.clock.LocalTime.{LocalTime}
 use Rattle.record.specs.declared.request.Request.{Request}
 use Rattle.rules.specs.Replica.{State, Stepped, newState, make, deliver, step}
 use Rattle.rules.specs.Run.{Call, delivery, turn, sentBy, call, run}

@@ -6,7 +6,7 @@ use mathlib.Core.List.{List, List·Memᴰ}
 use native.Mathlib.Omega.{arith}
 use Rattle.question.specs.Question.{Answer, given, refused, mapAnswer, verdict, outcome}
 use Rattle.question.specs.declared.Outcome.{Outcome}
-use Rattle.record.specs.declared.clock.LocalTime.{LocalTime}
+use Rattle.layout.specs.declared.clock.LocalTime.{LocalTime}
 use Rattle.record.specs.declared.message.Message.{Message}
 use Rattle.rules.specs.Replica.{make, deliver, step}
 use Rattle.rules.specs.Numbers.{makeNumbers, deliverNumbers, stepNumbers, voteNumbers, haltCountNumbers}

@@ -3,9 +3,9 @@ use Prim.Native.Nat.{ℕ}
 use mathlib.Core.Path.{_≡_}
 use mathlib.Core.List.{List, [], _∷_, _++_}
 use Rattle.question.specs.declared.Outcome.{Outcome}
-use Rattle.record.specs.Number.{Bytes}
+use Rattle.layout.specs.Number.{Bytes}
 use Rattle.record.specs.Record.{readRequest}
-use Rattle.record.specs.declared.clock.LocalTime.{LocalTime}
+use Rattle.layout.specs.declared.clock.LocalTime.{LocalTime}
 use Rattle.record.specs.declared.message.Message.{Message}
 use Rattle.rules.specs.Run.{messagesIn, arrived}
 use Rattle.rules.specs.declared.Pending.{Pending}

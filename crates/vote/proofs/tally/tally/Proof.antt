@@ -45,8 +45,8 @@ use denote.Triple.Entry.{Args, Vals, onEntry}
 use denote.Triple.Table.{cited}
 use Rattle.record.specs.Record.{blankMessage}
 use Rattle.record.specs.declared.message.Message.{Message}
-use Rattle.record.proofs.clock.Timestamp as S
-use Rattle.record.proofs.clock.Timestamp.Laws as S′
+use Rattle.layout.proofs.clock.Timestamp as S
+use Rattle.layout.proofs.clock.Timestamp.Laws as S′
 use Rattle.record.proofs.message.Message as T
 use Rattle.record.proofs.message.Message.Laws as T′
 use Rattle.rules.specs.declared.Query.{Query}

@@ -1,0 +1,36 @@
+use native.Mathlib.Nat.{pow-zero, div-one}
+use borrow.Author.Needs.{needs}
+use Rattle.layout.specs.Number.{digits}
+use Rattle.layout.proofs.number.digits8.Statement.{statement}
+use Rattle.layout.proofs.number.digits8.Tie as tie
+
+cast-a : tie.Need-cast-a
+cast-a c = search needs
+
+cast-b : tie.Need-cast-b
+cast-b c = search needs
+
+cast-c : tie.Need-cast-c
+cast-c c = search needs
+
+cast-d : tie.Need-cast-d
+cast-d c = search needs
+
+cast-e : tie.Need-cast-e
+cast-e c = search needs
+
+cast-f : tie.Need-cast-f
+cast-f c = search needs
+
+cast-g : tie.Need-cast-g
+cast-g c = search needs
+
+cast-h : tie.Need-cast-h
+cast-h c = search needs
+
+returns : tie.Need-returns
+unfolding digits
+returns c = simp (pow-zero, div-one)
+
+pub digits8-spec : {M : Type 1} → statement M
+digits8-spec = tie.close (tie.spec cast-a cast-b cast-c cast-d cast-e cast-f cast-g cast-h returns)
