@@ -17,15 +17,15 @@ use Rattle.batch.specs.State.{stateOf}
 use Rattle.ballot.specs.declared.count.VoteAnswer.{VoteAnswer}
 use Rattle.ballot.specs.declared.count.HaltAnswer.{HaltAnswer}
 use Rattle.vote.proofs.Called.{Votes, Counts}
-use Rattle.unit.specs.Unit.{accounts, Unit3}
+use Rattle.unit.specs.Unit.{accounts, Demand3OfCode}
 use Rattle.unit.proofs.Same.{authentic-same, complete-same}
-use Rattle.unit.proofs.Unit.{unit}
+use Rattle.unit.proofs.Unit.{demand3-of-code}
 use Rattle.unit.proofs.Lives.{livesOf, lives-same, lives-ran}
 
 -- ── a write is read back against a lie ──
 
-read-unit : Unit3 settings (only 3) (livesOf settings readCalls) readBag
-read-unit = unit settings (only 3) (livesOf settings readCalls) readBag (lives-ran settings (only 3) readCalls read-ran readBag read-supposed)
+read-unit : Demand3OfCode settings (only 3) (livesOf settings readCalls) readBag
+read-unit = demand3-of-code settings (only 3) (livesOf settings readCalls) readBag (lives-ran settings (only 3) readCalls read-ran readBag read-supposed)
 
 -- the struct of each correct replica holds what was written last
 pub structs-hold-written : (i : ℕ) → Correct settings (only 3) i → valueOf 4 (stateOf (livesOf settings readCalls i .last) .store) ≡ 9
@@ -43,8 +43,8 @@ code-votes-written =
 
 -- ── a dissent halts the processes ──
 
-halt-unit : Unit3 settings (only 1) (livesOf settings haltCalls) haltBag
-halt-unit = unit settings (only 1) (livesOf settings haltCalls) haltBag (lives-ran settings (only 1) haltCalls halt-ran haltBag halt-supposed)
+halt-unit : Demand3OfCode settings (only 1) (livesOf settings haltCalls) haltBag
+halt-unit = demand3-of-code settings (only 1) (livesOf settings haltCalls) haltBag (lives-ran settings (only 1) haltCalls halt-ran haltBag halt-supposed)
 
 pub structs-failed : (i : ℕ) → Correct settings (only 1) i → failed (stateOf (livesOf settings haltCalls i .last) .store) ≡ true
 unfolding verdictOf react reactAll machine

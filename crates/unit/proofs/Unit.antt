@@ -16,7 +16,7 @@ use Rattle.ballot.specs.Answers.{voteAnswer, haltAnswer}
 use Rattle.ballot.specs.declared.count.VoteAnswer.{VoteAnswer}
 use Rattle.ballot.specs.declared.count.HaltAnswer.{HaltAnswer}
 use Rattle.unit.specs.Life.{Life}
-use Rattle.unit.specs.Unit.{accounts, Ran, Unit3}
+use Rattle.unit.specs.Unit.{accounts, Ran, Demand3OfCode}
 use Rattle.unit.proofs.Accounts.{callsOf, life-made, life-account, life-lent}
 use Rattle.unit.proofs.Same.{supposed-same, claims-same}
 
@@ -46,8 +46,8 @@ module _ (u : Settings) (faulty : ℕ → Bool) (lives : ℕ → Life) (bag : Li
       claims-same u faulty (accounts u lives) (rules.accountOf u calls) same bag
       (demand3 u faulty calls bag by-rules (supposed-same u faulty (accounts u lives) (rules.accountOf u calls) same bag (ran .supposed)))
 
-  pub unit : Unit3 u faulty lives bag
-  unit = record {
+  pub demand3-of-code : Demand3OfCode u faulty lives bag
+  demand3-of-code = record {
     claims = claimed;
     elected = λ r sent unmixed list short authentic complete answer votes.
         value-is answer (votes ∙ claimed .elected r sent unmixed list short authentic complete);

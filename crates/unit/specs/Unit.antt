@@ -28,7 +28,7 @@ pub record Ran (u : Settings) (faulty : ℕ → Bool) (lives : ℕ → Life) (ba
   pub supposed : Supposed u faulty (accounts u lives) bag
 
 -- what is claimed
-pub record Unit3 (u : Settings) (faulty : ℕ → Bool) (lives : ℕ → Life) (bag : List Request) : Type 0 where
+pub record Demand3OfCode (u : Settings) (faulty : ℕ → Bool) (lives : ℕ → Life) (bag : List Request) : Type 0 where
   -- the third demand, of the accounts
   pub claims : Demand3 u faulty (accounts u lives) bag
   -- whatever the code answers to a vote on one of the owner's reads that is not mixed with a write, it is the machine's value
