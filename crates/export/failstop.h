@@ -75,7 +75,7 @@ typedef struct {
 } failstop_list;
 
 /* Beside a refusal stand zeros, or the replica as it came. A refused making has a blank replica, all zeros:
-   it refuses every delivery, and a step of it does nothing. */
+   it refuses every delivery, and a step of it only notes the time. */
 typedef struct { uint8_t refusal; failstop_request request; } failstop_request_result;
 typedef struct { uint8_t refusal; failstop_message message; } failstop_message_result;
 typedef struct { uint8_t refusal; failstop_replica replica; } failstop_replica_result;

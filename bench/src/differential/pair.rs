@@ -79,7 +79,8 @@ pub fn make(making: Making, tally: &mut Tally) -> Result<Option<Pair>, Differenc
 }
 
 /// Beside the refusal of a making stand zeros. Such a replica accepts no
-/// request, not even one of the smallest unit, and a step of it does nothing.
+/// request, not even one of the smallest unit, and a step of it only notes
+/// the time.
 fn blank(replica: &ffi::Replica, input: impl Fn() -> String + Copy) -> Outcome {
     let zero = ffi::Settings { k: 0, groups: 0, owner: 0, delta: 0 };
     let figures = (replica.settings, replica.number, replica.last.0, replica.writes);

@@ -1,4 +1,4 @@
--- The replica beside a refused making: it accepts no request, and has nothing to do in a step.
+-- The replica beside a refused making: it accepts no request, and has nothing to do in a step but to note the time.
 use Prim.Native.Nat.{ℕ}
 use mathlib.Core.Path.{_≡_, refl, _∙_, ap}
 use mathlib.Core.List.{List}
@@ -9,13 +9,15 @@ use Rattle.rules.specs.Replica.{admit, deliver, visits, putAll, Stepped, atTime
 use Rattle.laws.proofs.Step.{step-accepted}
 use Rattle.delivery.specs.Made.{blankState}
 
--- 2: it has no groups
-pub blank-refuses : (bytes : List ℕ) (now : LocalTime) → deliver blankState bytes now ≡ refused 2
-unfolding ask unitQuestions readFields admit deliver
-blank-refuses bytes now = refl
+-- whenever it was stepped last
 
--- it takes note of the time, and that is all
-pub blank-stands : (now : LocalTime) (output : List ℕ) {d : Stepped} → step blankState now output ≡ given d
+-- 2: it has no groups
+pub blank-refuses : (last : LocalTime) (bytes : List ℕ) (now : LocalTime) → deliver (atTime last blankState) bytes now ≡ refused 2
+unfolding ask unitQuestions readFields admit deliver
+blank-refuses last bytes now = refl
+
+-- it notes the time, and that is all
+pub blank-stands : (last now : LocalTime) (output : List ℕ) {d : Stepped} → step (atTime last blankState) now output ≡ given d
     → d ≡ record { state = atTime now blankState; count = 0; output = output }
 unfolding visits putAll stepped
-blank-stands now output e = step-accepted blankState now output e
+blank-stands last now output e = step-accepted (atTime last blankState) now output e

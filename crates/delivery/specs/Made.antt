@@ -17,8 +17,8 @@ newReplica u number = record {
   writes = 0;
 }
 
--- what stands beside the number of a refused making: zeros. It is no unit's replica, so it refuses every delivery and a step of it
--- does nothing: `blank-refuses` and `blank-stands` (proofs/Blank.antt)
+-- what stands beside the number of a refused making: zeros. It is no unit's replica, so it refuses every delivery, and a step of it
+-- only notes the time: `blank-refuses` and `blank-stands` (proofs/Blank.antt)
 abbrev pub blankReplica : Replica
 blankReplica = newReplica (record { k = 0; groups = 0; owner = 0; delta = 0 }) 0
 

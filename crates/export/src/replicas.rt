@@ -1,4 +1,5 @@
-// Making, delivery and step. A refused call gives the replica back as it was lent.
+// Making, delivery and step. A refused delivery or step gives the replica back as it was lent, a
+// refused making a blank one.
 ghost use mathlib.Core.Path.{_≡_};
 ghost use Prim.Native.Nat.{ℕ};
 ghost use Rattle.question.specs.Question.{refused, mapAnswer, after, verdict};

@@ -78,13 +78,13 @@ pub late-read-answered : (i : ℕ) → Correct five lying i → List·Memᴰ (re
 unfolding verdictOf react reactAll machine
 late-read-answered i ok = late-holds .answered i ok lateRead (List·Memᴰ·tail (List·Memᴰ·tail (List·Memᴰ·tail (List·Memᴰ·head refl)))) refl
 
-late-authentic : Authentic five lying (accountOf five lateCalls) lateHeard
+pub late-authentic : Authentic five lying (accountOf five lateCalls) lateHeard
 late-authentic =
     computed-authentic five lying lateCalls lateSent lateBag late-computed lateHeard
     (each-in (each (inl refl) (each (inl refl) (each (inl refl) (each (inl refl)
     (each (inr (List·Memᴰ·head refl)) (each (inr (List·Memᴰ·head refl)) (each (inr (List·Memᴰ·head refl)) (each-repeated 57 (lie 1) (inl refl))))))))))
 
-late-complete : CompleteForRead five lying lateRead lateHeard
+pub late-complete : CompleteForRead five lying lateRead lateHeard
 late-complete i ok = (replyWith 7 i lateRead, heard i ok, record { matched = refl; sender = refl })
   where
     heard : (i : ℕ) → Correct five lying i → List·Memᴰ (replyWith 7 i lateRead) lateHeard
@@ -100,7 +100,7 @@ late-vote-gives-written =
     late-holds .elected lateRead (List·Memᴰ·tail (List·Memᴰ·tail (List·Memᴰ·tail (List·Memᴰ·head refl)))) refl lateHeard (omega arith) late-authentic late-complete
 
 -- no correct replica sends a halt, and the two false ones stop nobody
-late-complete-halts : CompleteForHalts five lying (accountOf five lateCalls) 3 lateHeard
+pub late-complete-halts : CompleteForHalts five lying (accountOf five lateCalls) 3 lateHeard
 unfolding verdictOf react reactAll machine
 late-complete-halts i ok m j t =
     let failed-then = late-holds .halted i ok 3 (omega arith) (omega arith) .0 in
@@ -140,7 +140,7 @@ pub split-failed : (i : ℕ) → Correct five lying i → failed (accountOf five
 unfolding verdictOf react reactAll machine
 split-failed i ok = ap failed (split-holds .holds i ok)
 
-split-authentic : Authentic five lying (accountOf five splitCalls) splitHeard
+pub split-authentic : Authentic five lying (accountOf five splitCalls) splitHeard
 split-authentic =
     computed-authentic five lying splitCalls splitSent splitBag split-computed splitHeard
     (each-in (each (inr third) (each (inr third) (each (inr third) end))))
@@ -148,7 +148,7 @@ split-authentic =
     third : {a b c : Message} → List·Memᴰ c (a ∷ b ∷ c ∷ [])
     third = List·Memᴰ·tail (List·Memᴰ·tail (List·Memᴰ·head refl))
 
-split-complete : CompleteForHalts five lying (accountOf five splitCalls) 3 splitHeard
+pub split-complete : CompleteForHalts five lying (accountOf five splitCalls) 3 splitHeard
 split-complete i ok m j t = subst (λ x. List·Memᴰ x splitHeard) (sym (last m (rw (split-computed i ok .sends) at j) (halt-facts 1 3 m t .process))) (heard i ok)
   where
     -- of a replica's halts, the one to process 3

@@ -7,7 +7,7 @@ use mathlib.Core.List.{List, [], _∷_, _++_, List·Memᴰ, List·Memᴰ·head, 
 use native.Mathlib.Omega.{arith}
 use lib.ListN.{length, drop, length-append}
 use Rattle.limits.specs.Limits.{places, recordSize}
-use Rattle.question.specs.Question.{Answer, given, refused, unitQuestions}
+use Rattle.question.specs.Question.{Answer, given, refused, after, mapAnswer, unitQuestions}
 use Rattle.layout.specs.Number.{Bytes}
 use Rattle.layout.specs.declared.clock.LocalTime.{LocalTime}
 use Rattle.record.specs.declared.request.Request.{Request}
@@ -20,12 +20,10 @@ use Rattle.rules.specs.Replica.{State, Stepped, admit, arrive, deliver, ofGroup
 use Rattle.rules.specs.Run.{Call, delivery, turn, messagesIn, sentBy, call, run, arrivalOf}
 use Rattle.rules.specs.declared.Pending.{Pending}
 use Rattle.laws.specs.Output.{recordBytes, HoldsRecords}
-use Rattle.laws.proofs.Step.{step-accepted, step-at-most-67}
+use Rattle.laws.proofs.Step.{step-accepted, step-keeps, step-at-most-67}
 use Rattle.laws.proofs.Records.{written-records, read-records}
 use Rattle.laws.proofs.Accepted.{Made, Proper, read-proper, admit-admitted, step-late, step-room}
 use Rattle.laws.proofs.Sound.{Sound, visits-soundly}
-
--- ── the three things ──
 
 -- what is delivered are bytes
 abbrev pub LentTo : Call → Type 0
@@ -34,6 +32,24 @@ LentTo (turn now output) = Unit {0}
 
 abbrev pub AllLent : List Call → Type 0
 AllLent calls = (c : Call) → List·Memᴰ c calls → LentTo c
+
+-- ── the settings ──
+
+-- no call changes them, whatever the replica
+pub call-settings : (s : State) (c : Call) → call s c .state .settings ≡ s .settings
+unfolding call deliver
+call-settings s (delivery bytes now) = go (admit s bytes now)
+  where
+    go : (a : Answer Request) → after s (mapAnswer (λ r. arrive s r now) a) .settings ≡ s .settings
+    go (given r) = refl
+    go (refused number) = refl
+call-settings s (turn now output) = go (step s now output) refl
+  where
+    go : (a : Answer Stepped) → step s now output ≡ a → sentBy s a .state .settings ≡ s .settings
+    go (given d) e = step-keeps s now output e .settings
+    go (refused number) e = refl
+
+-- ── the three things, of a sound replica ──
 
 -- a call that is refused, a delivery that is accepted, a step that is
 pub data Act (u : Settings) (s : State) (c : Call) : Type 0 where

@@ -3,6 +3,7 @@ use Prim.Native.Nat.{ℕ, zero, suc, _<_}
 use mathlib.Core.Path.{_≡_, refl, sym, _∙_, ap}
 use mathlib.Core.Bool.{Bool, true, false, _&&_, _||_, and-true, and-false, or-true}
 use mathlib.Core.List.{List, [], _∷_, _++_, append-nil, flatMap}
+use native.Mathlib.Nat.{zero-add}
 use native.Mathlib.Omega.{arith}
 use lib.Dec.{eqb, ltb}
 use lib.ListN.{length}
@@ -13,11 +14,12 @@ use Rattle.layout.specs.declared.clock.LocalTime.{LocalTime}
 use Rattle.record.specs.declared.request.Request.{Request}
 use Rattle.rules.specs.Lists.{keep, upTo}
 use Rattle.rules.specs.Batch.{Store, Effect}
-use Rattle.rules.specs.Replica.{State, Stepped, requestsOf, ofGroup, visit, visits, written, putAll, atTime, stepped, step}
+use Rattle.rules.specs.Replica.{State, Stepped, requestsOf, ofGroup, visit, visits, Written, written, putAll, atTime, stepped, step}
 use Rattle.rules.specs.Machine.{reactAll}
 use Rattle.rules.specs.declared.Pending.{Pending}
 use Rattle.question.proofs.Tests.{case, both, within-true, in-within}
 use Rattle.laws.specs.Handled.{cleared, clearedOf, handledIn, ownHandled, leftBy, storeWhen, visitSent, stepSent}
+use Rattle.laws.specs.Output.{CountsRecords}
 use Rattle.laws.proofs.Lists.{keep-none, keep-both, keep-same, map-keep, flat-append, flat-same}
 use Rattle.laws.proofs.Keeps.{visits-keep}
 use Rattle.laws.proofs.Machine.{machineFrom}
@@ -26,6 +28,7 @@ use Rattle.laws.proofs.Handled.{none-within, past-within, next-within, 
 use Rattle.laws.proofs.Batches.{leaves, messagesAt, oneByOne}
 use Rattle.laws.proofs.Visited.{clearedRequests, same-requests, batch-whole, occurring-cleared, outcome, visit-one-by-one}
 use Rattle.laws.proofs.Step.{step-accepted}
+use Rattle.laws.proofs.Records.{put-stands}
 
 module _ (s : State) (now : LocalTime) where
   abbrev owner : ℕ
@@ -166,3 +169,15 @@ module _ (s : State) (now : LocalTime) (output : List ℕ) {d : Stepped} (e : st
   pub step-writes : written (d .count) (d .output) ≡ putAll (s .settings .k) (s .settings .groups) (written 0 output) (stepSent s now)
   unfolding stepped
   step-writes = rw (step-accepted s now output e, step-sends s now)
+
+  -- whatever the replica, the answer counts the records that stand in the output
+  pub step-counts : CountsRecords (stepSent s now) output d
+  step-counts =
+      let stands = put-stands (s .settings .k) (s .settings .groups) (stepSent s now) 0 [] output refl in
+      let same = step-writes ∙ stands .is in
+      record {
+        kept = stands .kept;
+        among = stands .among;
+        count = ap (λ (w : Written). w .count) same ∙ zero-add (length (stands .kept));
+        records = ap (λ (w : Written). w .output) same;
+      }

@@ -1,5 +1,5 @@
 -- What the twelve examples leave open, as rows: runs at the edges of the rules. Replica and machine share the rules of a batch, so
--- that an error in those is seen in figures alone.
+-- that the third demand holds of a wrong one too, and figures must show it.
 use Prim.Native.Nat.{ℕ, _-_, _^_}
 use mathlib.Core.List.{List, [], _∷_, _++_, map}
 use lib.ListN.{replicate}

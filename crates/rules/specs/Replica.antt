@@ -179,7 +179,7 @@ unfoldable pub putAll : ℕ → ℕ → Written → List Message → Written
 putAll k n w [] = w
 putAll k n w (m ∷ messages) = putAll k n (put k n w m) messages
 
--- what an accepted step leaves: the state, and how many records stand at the start of the output
+-- what an accepted step leaves: the state, the output, and how many records stand at its start
 pub record Stepped : Type 0 where
   pub state : State
   pub count : ℕ

@@ -20,9 +20,8 @@ use Rattle.delivery.proofs.Called.{makes-mean, delivers-mean}
 use Rattle.replica.specs.Answer.{stepAnswer}
 use Rattle.replica.specs.declared.stepping.StepAnswer.{StepAnswer}
 use Rattle.replica.proofs.Called.{steps-mean}
-use Rattle.laws.proofs.Accepted.{Made, make-made, admit-admitted}
-use Rattle.laws.proofs.Sound.{Sound, new-sound}
-use Rattle.laws.proofs.Calls.{LentTo, AllLent, call-sound}
+use Rattle.laws.proofs.Accepted.{admit-admitted}
+use Rattle.laws.proofs.Calls.{LentTo, AllLent, call-settings}
 use Rattle.unit.specs.Life.{Life, Lived, accountIn, Event, delivered, stepped, Does, delivers, steps, Runs, start, then, arrivedIn, stepIn, sentIn, gather}
 
 -- the call without its answer
@@ -104,14 +103,15 @@ pub record TellsAll (u : Settings) (s t : State) (events : List Event) : Type 0 
   pub steps : gather stepIn events ≡ stepTimes s (callsOf events)
   pub sent : gather (sentIn u) events ≡ run s (callsOf events) .sent
 
-pub runs-tell : (u : Settings) (me : ℕ) → Made u me → {r r′ : Replica} {events : List Event} → Sound u me (stateOf r) → Runs r events r′
+-- whatever the replica was at first
+pub runs-tell : (u : Settings) {r r′ : Replica} {events : List Event} → stateOf r .settings ≡ u → Runs r events r′
     → TellsAll u (stateOf r) (stateOf r′) events
 unfolding run arrivals stepTimes
-runs-tell u me ok h start = record { state = refl; arrived = refl; steps = refl; sent = refl }
-runs-tell u me ok {r} h (then {r′ = r′} {e = e} d rest) =
-    let one = does-tell u (h .settings) d in
-    let next : Sound u me (stateOf r′) = rw (one .state) (call-sound u me ok (stateOf r) (callOf e) h (does-lent d)) in
-    let others = runs-tell u me ok next rest in
+runs-tell u h start = record { state = refl; arrived = refl; steps = refl; sent = refl }
+runs-tell u {r} h (then {r′ = r′} {e = e} d rest) =
+    let one = does-tell u h d in
+    let next : stateOf r′ .settings ≡ u = ap (λ (s : State). s .settings) (one .state) ∙ (call-settings (stateOf r) (callOf e) ∙ h) in
+    let others = runs-tell u next rest in
     record {
       state = others .state ∙ rw (one .state);
       arrived = rw (one .arrived, others .arrived, one .state);
@@ -140,7 +140,7 @@ module _ (u : Settings) (number : ℕ) (l : Life) (lived : Lived u number l) whe
 
   pub life-account : accountIn u l ≡ account u number (callsOf (l .events))
   life-account =
-      let told = rw life-new at (runs-tell u number (make-made u number life-made) (rw life-new (new-sound u number)) (lived .runs)) in
+      let told = rw life-new at (runs-tell u (ap (λ (s : State). s .settings) life-new) (lived .runs)) in
       rw (told .arrived, told .steps, told .sent, ap (λ (s : State). s .store) (told .state))
 
   pub life-lent : Lent (callsOf (l .events))

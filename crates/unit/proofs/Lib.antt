@@ -4,5 +4,6 @@ pub mod Unit
 -- what is supposed can be met
 pub mod Lives
 pub mod Instances
+pub mod Edges
 -- refusal numbers
 pub mod Numbers

@@ -1,5 +1,5 @@
--- The numbers that the code refuses its calls with are document 01's, whatever it is given: crates/rules/specs/Numbers.antt has a list
--- for each call.
+-- The numbers that the code refuses make, deliver, step, vote and count_halts with are document 01's, whatever it is given:
+-- crates/rules/specs/Numbers.antt has a list for each call. Reading and writing a record give the rules' own answers.
 use Prim.Native.Nat.{ℕ}
 use mathlib.Core.Path.{_≡_, sym, ap, _∙_}
 use mathlib.Core.List.{List, List·Memᴰ}

@@ -50,8 +50,8 @@ module _ (u : Settings) (faulty : ℕ → Bool) (lives : ℕ → Life) (bag : Li
   demand3-of-code = record {
     claims = claimed;
     elected = λ r sent unmixed list short authentic complete answer votes.
-        value-is answer (votes ∙ claimed .elected r sent unmixed list short authentic complete);
+        value-is answer (votes ∙ claimed .elected r sent unmixed list (omega (arith, short)) authentic complete);
     counted = λ process low high list short authentic complete answer counts.
-        let c = claimed .counted process low high list short authentic complete in
+        let c = claimed .counted process low (omega (arith, high)) list (omega (arith, short)) authentic complete in
         (c .0, count-is answer (counts ∙ c .1), c .2);
   }
