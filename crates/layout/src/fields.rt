@@ -3,7 +3,7 @@ ghost use mathlib.Core.Path.{_≡_};
 ghost use lib.ListN.{length, drop};
 ghost use mathlib.Core.List.{_++_};
 ghost use Prim.Native.Nat.{_≤_};
-ghost use Rattle.layout.specs.Layout.{fieldsOf, fieldsIn, bytesOf, putIn};
+ghost use Rattle.layout.specs.Layout.{fieldsIn, blankFields, bytesOf, putIn};
 ghost use Rattle.limits.specs.Limits.{recordSize};
 use crate::clock::Timestamp;
 use crate::number::digits2;
@@ -25,11 +25,29 @@ pub struct Fields {
 }
 
 impl Fields {
-    // What 24 bytes say.
-    fn laid_out(bytes: &[u8]) -> Fields
-        requires { ⌜ length (now bytes) ≡ recordSize ⌝ }
-        ensures { λ r. ⌜ r ≡ fieldsOf (now (bytes .entry)) ⌝ }
+    fn blank() -> Fields
+        ensures { λ r. ⌜ r ≡ blankFields ⌝ }
     {
+        Fields {
+            kind: 0,
+            group: 0,
+            process: 0,
+            replica: 0,
+            variable: 0,
+            spare6: 0,
+            timestamp: Timestamp(0),
+            value: 0,
+            spare20: 0,
+        }
+    }
+
+    // What 24 bytes say; of another number of bytes nothing is read.
+    pub fn of_bytes(bytes: &[u8]) -> Fields
+        ensures { λ r. ⌜ r ≡ fieldsIn (now (bytes .entry)) ⌝ }
+    {
+        if bytes.len() != RECORD {
+            return Fields::blank();
+        }
         let kind = number_at(bytes, 0, 1) as u8;
         let group = number_at(bytes, 1, 1) as u8;
         let process = number_at(bytes, 2, 1) as u8;
@@ -49,26 +67,6 @@ impl Fields {
             timestamp,
             value,
             spare20,
-        }
-    }
-
-    // Of another number of bytes nothing is read.
-    pub fn of_bytes(bytes: &[u8]) -> Fields
-        ensures { λ r. ⌜ r ≡ fieldsIn (now (bytes .entry)) ⌝ }
-    {
-        if bytes.len() == RECORD {
-            return Fields::laid_out(bytes);
-        }
-        Fields {
-            kind: 0,
-            group: 0,
-            process: 0,
-            replica: 0,
-            variable: 0,
-            spare6: 0,
-            timestamp: Timestamp(0),
-            value: 0,
-            spare20: 0,
         }
     }
 

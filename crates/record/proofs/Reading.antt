@@ -10,7 +10,8 @@ use Rattle.question.specs.Question.{Question, _else_, Answer, given, refused, W
 use Rattle.question.specs.declared.Outcome.{Outcome}
 use Rattle.question.specs.declared.Outcome.the-variants.{Done, Refused}
 use Rattle.question.proofs.Questions.{AllYes, all-yes-parts, all-yes-both, ask-chain, ask-yes, ask-all-yes, ask-map, ask-verdict, next-asked, same-given}
-use Rattle.layout.specs.Layout.{fieldsOf, bytesOf}
+use Rattle.layout.specs.Layout.{fieldsOf, fieldsIn, bytesOf}
+use Rattle.layout.proofs.Layouts.{fields-in}
 use Rattle.record.specs.Record.{fieldQuestions, readQuestions, readFields, writeQuestions, writeFields}
 use Rattle.layout.specs.declared.fields.Fields.{Fields}
 use Rattle.record.specs.declared.kind.Family.{Family}
@@ -29,7 +30,7 @@ module _ (family : Family) (k n : ℕ) where
 
   module _ (bytes : List ℕ) (o : Outcome) (asked : outcome o ≡ ask (unitQuestions k n ++ lengthQuestion bytes) (given worked)) where
     -- bytes that pass questions 1, 2 and 6 are 24
-    pub read-length : o ≡ Done → length bytes ≡ recordSize
+    read-length : o ≡ Done → length bytes ≡ recordSize
     read-length e =
         let first = unitQuestions k n ++ lengthQuestion bytes in
         let parts = all-yes-parts (unitQuestions k n) (lengthQuestion bytes) (ask-all-yes first (given worked) (sym asked ∙ ap outcome e)) in
@@ -44,10 +45,11 @@ module _ (family : Family) (k n : ℕ) where
       pub read-refused : {number : ℕ} → o ≡ Refused number → refused number ≡ mapAnswer of (readFields family k n bytes)
       read-refused e = rw e at read-next
 
-      pub read-decided : o ≡ Done → {f : Fields} → f ≡ fieldsOf bytes → {later : Answer Worked} →
+      pub read-decided : o ≡ Done → {f : Fields} → f ≡ fieldsIn bytes → {later : Answer Worked} →
           later ≡ ask (fieldQuestions family k n f) (given worked) →
           next later (given (of f)) ≡ mapAnswer of (readFields family k n bytes)
-      read-decided e {f} is {later} fields =
+      read-decided e {f} read {later} fields =
+          let is = read ∙ fields-in bytes (read-length e) in
           rw is (next-asked (fieldQuestions family k n (fieldsOf bytes)) (given (of (fieldsOf bytes))) later (rw is at fields) ∙ (rw e at read-next))
 
   module _ (f : Fields) (destination : List ℕ) (alone : Answer Worked)
