@@ -1,9 +1,15 @@
 -- No request passed is of the batch, so the batch is what is left of it.
-use Prim.Native.Nat.{_≤_, _-_}
-use mathlib.Core.Path.{_≡_, refl}
+use Prim.Native.Nat.{ℕ, _+_, _≤_, _-_}
+use mathlib.Core.Path.{_≡_, refl, sym, ap, _∙_}
+use mathlib.Core.Bool.{true}
+use mathlib.Core.List.{List, _∷_}
 use native.Mathlib.Omega.{arith}
 use lib.ListN.{drop}
 use borrow.Author.Needs.{needs}
+use Rattle.layout.specs.declared.clock.Timestamp.{Timestamp}
+use Rattle.rules.specs.Batch.{firstOf}
+use Rattle.rules.specs.Replica.{inBatch}
+use Rattle.rules.specs.declared.Pending.{Pending}
 use Rattle.batch.specs.State.{waiting, free}
 use Rattle.batch.specs.Head.{requestsAt}
 use Rattle.batch.proofs.Left.{left-next, left-none}
@@ -31,12 +37,18 @@ element-copy-out-p c = search needs
 in-batch-requires : tie.Need-in-batch-requires Inv-loop μ-loop
 in-batch-requires c κs = search needs
 
+-- a request of the batch comes before those behind it
+first-left : (group : ℕ) (t : Timestamp) (p : Pending) (rest : List Pending) → inBatch group t p ≡ true → p .request ≡ firstOf (requestsAt group t (p ∷ rest))
+first-left group t p rest mine = rw mine
+
 returns : tie.Need-returns Inv-loop μ-loop
 returns c =
     let l = c .before .before .before .before .before in
-    let r = l .before .before .args .t1 in
+    let a = l .before .before .args in
+    let r = a .t1 in
     let next = left-next (r .count) (r .pending) (l .loop .i) free (omega (arith, l .before .pending-count .ensures .0)) in
-    rw (← l .loop .inv .1, next, ← c .before .before .in-batch .ensures, c .before .if1 .taken)
+    let mine = sym (c .before .before .in-batch .ensures) ∙ c .before .if1 .taken in
+    first-left (a .group) (a .t) _ (drop (l .loop .i + 1) (waiting r)) mine ∙ ap firstOf (ap (requestsAt (a .group) (a .t)) (sym next) ∙ l .loop .inv .1)
 
 add-i : tie.Need-add-i Inv-loop μ-loop
 add-i c = search needs
