@@ -1,9 +1,10 @@
-//! The expected texts of crates/cases and crates/journal are what the model says.
+//! The expected texts of crates/cases, crates/journal and crates/drill are what the model says.
 
 use std::fmt::Write;
 use std::fs;
 use std::path::PathBuf;
 
+use bench::model::drill::sheet;
 use bench::model::journal::play_bytes;
 use bench::model::record::{
     read_message, read_request, write_message, write_request, MessageFields, RequestFields,
@@ -221,4 +222,13 @@ fn journals_are_the_models() {
         said.extend(play_bytes(&file(&format!("journal/{input}"))));
     }
     assert!(said == file("journal/stdout"), "crates/journal/stdout is not the model's");
+}
+
+#[test]
+fn drill_sheet_is_the_models() {
+    let expected = text("drill/stdout");
+    for (line, stands) in sheet().lines().zip(expected.lines()) {
+        assert_eq!(line, stands);
+    }
+    assert_eq!(sheet(), expected);
 }

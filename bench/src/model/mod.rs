@@ -5,6 +5,7 @@
 //! stable = ripe, failed = frozen.
 
 pub mod by_value;
+pub mod drill;
 pub mod journal;
 pub mod machine;
 pub mod record;

@@ -114,7 +114,7 @@ step-done s at output =
       );
     })
 
-stepped-state : (s : State) (a : Answer Stepped) → after s (mapAnswer (λ d. d .state) a) ≡ sentBy s a .state
+pub stepped-state : (s : State) (a : Answer Stepped) → after s (mapAnswer (λ d. d .state) a) ≡ sentBy s a .state
 stepped-state s (given d) = refl
 stepped-state s (refused number) = refl
 

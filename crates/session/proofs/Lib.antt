@@ -1,0 +1,6 @@
+pub mod Places
+pub mod Fed
+pub mod Written
+pub mod Reached
+pub mod Brought
+pub mod Checked

@@ -1,0 +1,78 @@
+-- Every replica that held a session has the register machine's figures. It is the third demand, of a unit in which the two other
+-- replicas are fed the session in its order.
+use Prim.Native.Nat.{ℕ, _≤_, _<_}
+use mathlib.Core.Path.{_≡_, refl, sym, ap, subst, _∙_}
+use mathlib.Core.Bool.{Bool, true, false, cond}
+use mathlib.Core.List.{List}
+use native.Mathlib.Omega.{arith}
+use lib.Dec.{eqb}
+use borrow.Author.Tests.{eqb-true, eq-eqb, leb-true}
+use Rattle.limits.specs.Limits.{maxDelta}
+use Rattle.question.specs.Question.{given, unitQuestions}
+use Rattle.question.proofs.Questions.{ask-all-yes}
+use Rattle.question.proofs.Tests.{case}
+use Rattle.rules.specs.Replica.{newState, makeQuestions, make}
+use Rattle.rules.specs.Run.{Call}
+use Rattle.laws.proofs.Accepted.{make-made}
+use Rattle.failstop.specs.Suppose.{Account, Correct, Orderly, Supposed}
+use Rattle.failstop.specs.Runs.{Lent, Ran, account, accountOf}
+use Rattle.failstop.proofs.Demand3.{demand3}
+use Rattle.batch.specs.State.{stateOf}
+use Rattle.unit.specs.Life.{Life}
+use Rattle.unit.proofs.Accounts.{callsOf, life-made, life-account, life-lent}
+use Rattle.session.specs.Session.{unit, session, sessionCalls, figuresIn, figuresOf}
+use Rattle.session.specs.Held.{Held}
+use Rattle.session.proofs.Fed.{fed-lent, fed-orderly, fed-made}
+
+-- no replica is faulty
+abbrev none : ℕ → Bool
+none i = false
+
+-- a replica is made only with a δ within its limit
+made-delta : (delta number : ℕ) → make (unit delta) number ≡ given (newState (unit delta) number) → delta ≤ maxDelta
+unfolding unitQuestions make
+made-delta delta number e =
+    let all = ask-all-yes (makeQuestions (unit delta) number) (given (newState (unit delta) number)) e in
+    leb-true delta maxDelta (all .1 .1 .1 .0)
+
+-- ── a replica of the rules ──
+
+module _ (delta number place : ℕ) (small : place < 256) (own : List Call) (made : make (unit delta) number ≡ given (newState (unit delta) number))
+    (lent : Lent own) (orderly : Orderly (unit delta) (session place) (account (unit delta) number own)) where
+  -- its own calls, and the others'
+  abbrev calls : ℕ → List Call
+  calls i = cond (eqb i number) own (sessionCalls delta place)
+
+  short : delta ≤ maxDelta
+  short = made-delta delta number made
+
+  ran : Ran (unit delta) none calls
+  ran = record {
+    made = λ i ok. fed-made delta i short (ok .low) (ok .high);
+    lent = λ i ok. case (eqb i number) (λ e. rw e lent) (λ e. rw e (fed-lent delta place small));
+  }
+
+  supposed : Supposed (unit delta) none (accountOf (unit delta) calls) (session place)
+  supposed = record {
+    few = omega arith;
+    orderly = λ i ok. case (eqb i number)
+        (λ e. rw (e, eqb-true i number e) orderly)
+        (λ e. rw e (fed-orderly delta i place short small));
+  }
+
+  pub run-reaches : figuresIn (account (unit delta) number own .store) ≡ figuresOf place
+  unfolding figuresOf
+  run-reaches =
+      let ours = make-made (unit delta) number made in
+      let ok : Correct (unit delta) none number = record { low = ours .number-low; high = ours .number-high; faultless = refl } in
+      rw (eq-eqb number number refl) at (ap figuresIn (demand3 (unit delta) none calls (session place) ran supposed .holds number ok))
+
+-- ── a replica of the code ──
+
+pub session-reaches : (delta number place : ℕ) (l : Life) → place < 256 → Held delta number place l → figuresIn (stateOf (l .last) .store) ≡ figuresOf place
+session-reaches delta number place l small held =
+    let u = unit delta in
+    let same = life-account u number l (held .lived) in
+    ap (λ (a : Account). figuresIn (a .store)) same
+    ∙ run-reaches delta number place small (callsOf (l .events)) (life-made u number l (held .lived)) (life-lent u number l (held .lived))
+    (subst (Orderly u (session place)) same (held .orderly))
