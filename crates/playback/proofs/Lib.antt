@@ -1,8 +1,5 @@
-pub mod Lists
-pub mod Places
-pub mod Lines
 pub mod Whole
 pub mod Plays
-pub mod Pages
+pub mod Messages
 pub mod Room
 pub mod Numbers

@@ -8,10 +8,11 @@ use lib.ListN.{length, take, drop, length-drop, drop-of-length-le}
 use lib.Seq.{take-all, take-nil}
 use native.Mathlib.Omega.{arith}
 use borrow.Author.Tests.{leb-true, leb-false}
+use Rattle.text.specs.Text.{joined}
 use Rattle.question.specs.Question.{Answer, given, refused, Worked, next, after, verdict, mapAnswer}
 use Rattle.rules.specs.declared.Settings.{Settings}
 use Rattle.rules.specs.Replica.{State, Stepped}
-use Rattle.playback.specs.Page.{answerLines, joined}
+use Rattle.playback.specs.Lines.{answerLines}
 use Rattle.playback.specs.Journal.{putBack}
 
 -- ── the request ──

@@ -6,6 +6,7 @@ use Prim.Native.String as text
 use mathlib.Core.Path.{_≡_, refl}
 use mathlib.Core.List.{List, [], _∷_, _++_}
 use lib.ListN.{replicate}
+use Rattle.text.specs.Text.{decimalIn, decimal, line}
 use Rattle.question.specs.Question.{ask, unitQuestions}
 use Rattle.layout.specs.Number.{number, digits}
 use Rattle.layout.specs.Layout.{fieldsOf, bytesOf}
@@ -16,7 +17,6 @@ use Rattle.rules.specs.Replica.{admit, deliver, handleBatch, visit, visits, put
 use Rattle.rules.specs.Run.{messagesIn}
 use Rattle.entry.specs.Entry.{readSetup, readEntry}
 use Rattle.playback.specs.Play.{playEntry}
-use Rattle.playback.specs.Text.{places, decimal, line}
 use Rattle.playback.specs.Journal.{playAll, journal}
 
 -- ── the bytes ──
@@ -48,5 +48,5 @@ ascii text.[] = []
 ascii (text._∷_ c s) = code c ∷ ascii s
 
 pub whole-run : journal input ≡ ascii "reply 1 1 1 51 3 9\ncard 1 0 1\n"
-unfolding ask unitQuestions number digits fieldsOf bytesOf fieldQuestions readFields writeFields verdictOf handle admit deliver handleBatch visit visits put putAll stepped step messagesIn readSetup readEntry playEntry places decimal line playAll journal
+unfolding ask unitQuestions number digits fieldsOf bytesOf fieldQuestions readFields writeFields verdictOf handle admit deliver handleBatch visit visits put putAll stepped step messagesIn readSetup readEntry playEntry decimalIn decimal line playAll journal
 whole-run = refl

@@ -3,14 +3,14 @@ use Prim.Native.Nat.{ℕ, zero, suc, _+_, _*_, _-_}
 use mathlib.Core.List.{List, [], _∷_, _++_, map}
 use lib.ListN.{length, take, drop, getD, set, replicate}
 use Rattle.limits.specs.Limits.{entrySize, outputSize}
+use Rattle.text.specs.Text.{joined}
 use Rattle.question.specs.Question.{Answer, given, refused}
 use Rattle.rules.specs.Lists.{upTo}
 use Rattle.rules.specs.declared.Settings.{Settings}
 use Rattle.rules.specs.Replica.{State, Stepped, newState}
 use Rattle.entry.specs.Entry.{Entry, delivery, turn, readSetup, readEntry}
 use Rattle.playback.specs.Play.{playEntry}
-use Rattle.playback.specs.Text.{refusalLine, cardLine}
-use Rattle.playback.specs.Page.{answerLines, joined}
+use Rattle.playback.specs.Lines.{refusalLine, answerLines, cardLine}
 
 -- entries of 40 bytes, the last one as long as it is; no more of them than bytes
 abbrev pub entriesOf : ℕ → List ℕ → List (List ℕ)

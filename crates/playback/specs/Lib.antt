@@ -1,4 +1,3 @@
 pub mod Play
-pub mod Text
-pub mod Page
+pub mod Lines
 pub mod Journal

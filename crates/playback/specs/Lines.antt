@@ -1,32 +1,15 @@
 -- The journal program's lines, as ASCII.
-use Prim.Native.Nat.{ℕ, _+_, _^_}
+use Prim.Native.Nat.{ℕ}
 use mathlib.Core.Bool.{cond}
-use mathlib.Core.List.{List, [], _∷_, _++_}
-use lib.Dec.{eqb, leb}
-use lib.ListN.{take}
-use Rattle.io.specs.Digits.{digits}
+use mathlib.Core.List.{List, [], _∷_, _++_, map}
+use lib.Dec.{eqb}
+use Rattle.text.specs.Text.{line}
+use Rattle.question.specs.Question.{Answer, given, refused}
 use Rattle.record.specs.Kind.{reply}
 use Rattle.record.specs.declared.message.Message.{Message}
-use Rattle.rules.specs.Lists.{tally}
 use Rattle.rules.specs.Batch.{valueOf}
 use Rattle.rules.specs.Replica.{State}
-use Rattle.playback.specs.declared.text.Line.{Line}
-
--- how many decimal digits a 64-bit number has
-unfoldable pub places : ℕ → ℕ
-places n = tally (λ i. leb (10 ^ i) n) 19 + 1
-
-unfoldable pub decimal : ℕ → List ℕ
-decimal n = digits 10 (places n) n
-
--- each number with a space before it
-abbrev pub spaced : List ℕ → List ℕ
-spaced [] = []
-spaced (n ∷ numbers) = (32 ∷ decimal n) ++ spaced numbers
-
--- a word, the numbers and a line end
-unfoldable pub line : List ℕ → List ℕ → List ℕ
-line word numbers = word ++ (spaced numbers ++ (10 ∷ []))
+use Rattle.rules.specs.Run.{messagesIn}
 
 -- "reply", "halt", "no", "card"
 abbrev pub replyWord : List ℕ
@@ -56,10 +39,11 @@ messageLine m =
 abbrev pub refusalLine : ℕ → ℕ → List ℕ
 refusalLine place number = line noWord (place ∷ number ∷ [])
 
+-- what a record did: a line for each message among the records that were sent, or its refusal
+abbrev pub answerLines : ℕ → ℕ → ℕ → Answer ℕ → List ℕ → List (List ℕ)
+answerLines k n place (given count) sent = map messageLine (messagesIn k n count sent)
+answerLines k n place (refused number) sent = refusalLine place number ∷ []
+
 -- at the end each replica: its number, its failed mark, the writes performed
 abbrev pub cardLine : State → List ℕ
 cardLine s = line cardWord (s .number ∷ valueOf 0 (s .store) ∷ s .store .writes ∷ [])
-
--- the text that a line's struct holds
-abbrev pub textOf : Line → List ℕ
-textOf l = take (l .length) (l .bytes)

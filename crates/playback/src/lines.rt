@@ -1,0 +1,95 @@
+// A journal's lines, put into a lent text one behind the other, as the library `text` does.
+ghost use mathlib.Core.Path.{_≡_};
+ghost use mathlib.Core.List.{map};
+ghost use Rattle.text.specs.Text.{joined};
+ghost use Rattle.text.specs.Page.{page, put};
+ghost use Rattle.record.specs.Record.{readMessage};
+ghost use Rattle.rules.specs.Run.{accepted, messagesIn};
+ghost use Rattle.batch.specs.State.{stateOf};
+ghost use Rattle.replica.specs.Answer.{stepAnswer};
+ghost use Rattle.playback.specs.Lines.{messageLine, refusalLine, answerLines, cardLine};
+use limits::RECORD;
+use record::Message;
+use record::MessageRead;
+use record::REPLY;
+use replica::Replica;
+use replica::StepAnswer;
+
+fn put_message(m: Message, text: &mut [u8], used: usize) -> usize
+    ensures { λ n. ⌜ page (now (text .exit)) n ≡ put (page (now (text .entry)) used) (messageLine m) ⌝ }
+{
+    let numbers = [
+        m.replica as u64,
+        m.group as u64,
+        m.process as u64,
+        m.timestamp.0,
+        m.variable as u64,
+        m.value as u64,
+    ];
+    if m.kind == REPLY {
+        return text::put_line(b"reply", &numbers, text, used);
+    }
+    text::put_line(b"halt", &numbers[0..4], text, used)
+}
+
+// The line of a record that a step wrote.
+fn put_record(k: u8, groups: u8, bytes: &[u8], text: &mut [u8], used: usize) -> usize
+    ensures { λ n. ⌜ page (now (text .exit)) n ≡ put (page (now (text .entry)) used) (joined (map messageLine (accepted (readMessage k groups (now (bytes .entry)))))) ⌝ }
+{
+    match record::read_message(k, groups, bytes) {
+        MessageRead::Accepted(m) => put_message(m, text, used),
+        MessageRead::Refused(_) => used,
+    }
+}
+
+// A line for each of the first `count` records.
+fn put_messages(k: u8, groups: u8, count: usize, sent: &[u8], text: &mut [u8], used: usize) -> usize
+    ensures { λ n. ⌜ page (now (text .exit)) n ≡ put (page (now (text .entry)) used) (joined (map messageLine (messagesIn k groups count (now (sent .entry))))) ⌝ }
+{
+    let mut next = used;
+    let mut at: usize = 0;
+    let mut i: usize = 0;
+    while i < count {
+        if sent.len() - at < RECORD {
+            return next;
+        }
+        let end = at + RECORD;
+        next = put_record(k, groups, &sent[at..end], text, next);
+        at = end;
+        i += 1;
+    }
+    next
+}
+
+// What a record did: the messages that it wrote to `sent`, or its refusal.
+pub fn put_answer(
+    k: u8,
+    groups: u8,
+    place: u64,
+    answer: StepAnswer,
+    sent: &[u8],
+    text: &mut [u8],
+    used: usize,
+) -> usize
+    ensures { λ n. ⌜ page (now (text .exit)) n ≡ put (page (now (text .entry)) used) (joined (answerLines k groups place (stepAnswer answer) (now (sent .entry)))) ⌝ }
+{
+    match answer {
+        StepAnswer::Sent(count) => put_messages(k, groups, count, sent, text, used),
+        StepAnswer::Refused(number) => put_refusal(place, number, text, used),
+    }
+}
+
+pub fn put_refusal(place: u64, number: u8, text: &mut [u8], used: usize) -> usize
+    ensures { λ n. ⌜ page (now (text .exit)) n ≡ put (page (now (text .entry)) used) (refusalLine place number) ⌝ }
+{
+    let numbers = [place, number as u64];
+    text::put_line(b"no", &numbers, text, used)
+}
+
+pub fn put_card(r: Replica, text: &mut [u8], used: usize) -> usize
+    ensures { λ n. ⌜ page (now (text .exit)) n ≡ put (page (now (text .entry)) used) (cardLine (stateOf r)) ⌝ }
+{
+    let failed = r.variables[0] as u64;
+    let numbers = [r.number as u64, failed, r.writes];
+    text::put_line(b"card", &numbers, text, used)
+}

@@ -1,0 +1,119 @@
+-- Texts put into a lent text: one after the other they are both together, and where there is room a text stands there whole. Assumes nothing.
+use Prim.Native.Nat.{ℕ, zero, suc, _+_, _-_, min, _≤_, _<_}
+use mathlib.Core.Path.{_≡_, refl, sym, ap, _∙_}
+use mathlib.Core.Bool.{Bool, true, false}
+use mathlib.Core.List.{List, [], _∷_, _++_, append-assoc, append-nil}
+use lib.Dec.{leb}
+use lib.ListN.{length, take, drop, length-append, length-take, length-drop, take-append-drop, drop-of-length-le}
+use lib.Seq.{length-take-le, take-all, take-nil, take-at, drop-at, drop-drop}
+use native.Mathlib.Nat.{add-zero, sub-zero}
+use native.Mathlib.Omega.{arith}
+use borrow.Author.Tests.{leb-true, leb-false}
+use borrow.Rule.Slice.PartMut.{putMid}
+use Rattle.text.specs.Page.{Page, page, written, put}
+
+-- ── a text that fits ──
+
+written-nothing : (p : Page) → written p [] ≡ p
+written-nothing p = rw (add-zero (p .used), take-append-drop (p .used) (p .bytes))
+
+module _ (p : Page) (first : List ℕ) (fits : p .used + length first ≤ length (p .bytes)) where
+  abbrev start : List ℕ
+  start = take (p .used) (p .bytes) ++ first
+
+  abbrev end : ℕ
+  end = p .used + length first
+
+  length-start : length start ≡ end
+  length-start = rw (length-append, length-take-le (p .used) (p .bytes) (omega arith))
+
+  split : written p first .bytes ≡ start ++ drop end (p .bytes)
+  split = sym (append-assoc (take (p .used) (p .bytes)) first (drop end (p .bytes)))
+
+  length-written : length (written p first .bytes) ≡ length (p .bytes)
+  length-written =
+      ap length split ∙ (length-append start (drop end (p .bytes)) ∙ omega (arith, length-start, length-drop end (p .bytes)))
+
+  take-written : take end (written p first .bytes) ≡ start
+  take-written = rw split (take-at start _ end length-start)
+
+  drop-written : (more : ℕ) → drop (end + more) (written p first .bytes) ≡ drop (end + more) (p .bytes)
+  drop-written more =
+      rw (← drop-drop more end (written p first .bytes), ← drop-drop more end (p .bytes), split, drop-at start (drop end (p .bytes)) end length-start)
+
+  -- a second one behind it: both together
+  written-twice : (second : List ℕ) → written (written p first) second ≡ written p (first ++ second)
+  written-twice second =
+      let long = length-append first second in
+      let sum : p .used + length (first ++ second) ≡ end + length second = omega arith in
+      rw (sum, take-written, drop-written (length second), append-assoc (take (p .used) (p .bytes)) first (second ++ drop (end + length second) (p .bytes)), append-assoc first second (drop (end + length second) (p .bytes)))
+
+-- ── what is cut off ──
+
+take-append : (n : ℕ) (a b : List ℕ) → take n (a ++ b) ≡ take n a ++ take (n - length a) b
+take-append zero a b = let none : 0 - length a ≡ 0 = omega arith in rw none
+take-append (suc n) [] b = rw (sub-zero (suc n))
+take-append (suc n) (x ∷ a) b =
+    let less : suc n - suc (length a) ≡ n - length a = omega arith in
+    rw less (ap (λ l. x ∷ l) (take-append n a b))
+
+take-min : (n : ℕ) (a : List ℕ) → take (min (length a) n) a ≡ take n a
+take-min n a = cut (leb (length a) n) refl where
+  cut : (b : Bool) → leb (length a) n ≡ b → take (min (length a) n) a ≡ take n a
+  cut true e =
+      let h = leb-true (length a) n e in
+      take-all (min (length a) n) a (omega arith) ∙ sym (take-all n a h)
+  cut false e =
+      let h = leb-false (length a) n e in
+      let same : min (length a) n ≡ n = omega arith in
+      rw same
+
+-- ── any text ──
+
+pub put-nothing : (p : Page) → put p [] ≡ p
+unfolding put
+put-nothing p = rw (take-nil (length (p .bytes) - p .used)) (written-nothing p)
+
+pub put-room : (p : Page) (text : List ℕ) → p .used + length text ≤ length (p .bytes) → put p text ≡ written p text
+unfolding put
+put-room p text h = rw (take-all (length (p .bytes) - p .used) text (omega arith))
+
+-- where nothing is free, nothing changes
+pub put-full : (p : Page) (text : List ℕ) → length (p .bytes) ≤ p .used → put p text ≡ p
+unfolding put
+put-full p text h =
+    let none : length (p .bytes) - p .used ≡ 0 = omega arith in
+    rw none (written-nothing p)
+
+put-both : (p : Page) (a b : List ℕ) → p .used ≤ length (p .bytes) → put (put p a) b ≡ put p (a ++ b)
+unfolding put
+put-both p a b h =
+    let free = length (p .bytes) - p .used in
+    let cut = length-take free a in
+    let fits : p .used + length (take free a) ≤ length (p .bytes) = omega arith in
+    let left : length (written p (take free a) .bytes) - (p .used + length (take free a)) ≡ free - length a =
+    omega (arith, length-written p (take free a) fits) in
+    rw (left, take-append free a b) (written-twice p (take free a) fits (take (free - length a) b))
+
+pub put-put : (p : Page) (a b : List ℕ) → put (put p a) b ≡ put p (a ++ b)
+put-put p a b = both (leb (p .used) (length (p .bytes))) refl where
+  both : (t : Bool) → leb (p .used) (length (p .bytes)) ≡ t → put (put p a) b ≡ put p (a ++ b)
+  both true e = put-both p a b (leb-true (p .used) (length (p .bytes)) e)
+  both false e =
+      let h = leb-false (p .used) (length (p .bytes)) e in
+      rw (put-full p a (omega arith), put-full p b (omega arith), put-full p (a ++ b) (omega arith))
+
+-- through the part of the text behind what is used
+pub put-part : (text : List ℕ) (used : ℕ) (word last : List ℕ) (count : ℕ) →
+    used ≤ length text → count ≡ min (length word) (length text - used) →
+    last ≡ take count word ++ drop count (take (length text - used) (drop used text)) →
+    page (putMid used (length text - used) text last) (used + count) ≡ put (page text used) word
+unfolding put
+put-part text used word last count h same e =
+    let all : take (length text - used) (drop used text) ≡ drop used text =
+    take-all (length text - used) (drop used text) (rw length-drop (omega arith)) in
+    let none : drop (length text - used) (drop used text) ≡ [] =
+    drop-of-length-le (drop used text) {i = length text - used} (rw length-drop (omega arith)) in
+    let long : length (take count word) ≡ count = length-take-le count word (omega arith) in
+    let cut : take count word ≡ take (length text - used) word = rw same (take-min (length text - used) word) in
+    rw (none, append-nil, e, all, ← cut, long, drop-drop count used text)
