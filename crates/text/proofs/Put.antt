@@ -5,7 +5,7 @@ use mathlib.Core.Bool.{Bool, true, false}
 use mathlib.Core.List.{List, [], _∷_, _++_, append-assoc, append-nil}
 use lib.Dec.{leb}
 use lib.ListN.{length, take, drop, length-append, length-take, length-drop, take-append-drop, drop-of-length-le}
-use lib.Seq.{length-take-le, take-all, take-nil, take-at, drop-at, drop-drop}
+use lib.Seq.{length-take-le, take-all, take-length, take-nil, take-at, drop-at, drop-drop}
 use native.Mathlib.Nat.{add-zero, sub-zero}
 use native.Mathlib.Omega.{arith}
 use borrow.Author.Tests.{leb-true, leb-false}
@@ -103,17 +103,18 @@ put-put p a b = both (leb (p .used) (length (p .bytes))) refl where
       let h = leb-false (p .used) (length (p .bytes)) e in
       rw (put-full p a (omega arith), put-full p b (omega arith), put-full p (a ++ b) (omega arith))
 
--- through the part of the text behind what is used
-pub put-part : (text : List ℕ) (used : ℕ) (word last : List ℕ) (count : ℕ) →
-    used ≤ length text → count ≡ min (length word) (length text - used) →
-    last ≡ take count word ++ drop count (take (length text - used) (drop used text)) →
+-- through the part of the text behind what is used, and as much of the word as fits
+pub put-part : (text : List ℕ) (used : ℕ) (word last : List ℕ) (count : ℕ) → used ≤ length text →
+    count ≡ min (length word) (length text - used) →
+    (let fits = take count word in
+    last ≡ take (length fits) fits ++ drop (length fits) (take (length text - used) (drop used text))) →
     page (putMid used (length text - used) text last) (used + count) ≡ put (page text used) word
 unfolding put
 put-part text used word last count h same e =
-    let all : take (length text - used) (drop used text) ≡ drop used text =
+    let rest : take (length text - used) (drop used text) ≡ drop used text =
     take-all (length text - used) (drop used text) (rw length-drop (omega arith)) in
     let none : drop (length text - used) (drop used text) ≡ [] =
     drop-of-length-le (drop used text) {i = length text - used} (rw length-drop (omega arith)) in
     let long : length (take count word) ≡ count = length-take-le count word (omega arith) in
     let cut : take count word ≡ take (length text - used) word = rw same (take-min (length text - used) word) in
-    rw (none, append-nil, e, all, ← cut, long, drop-drop count used text)
+    rw (none, append-nil, e, rest, take-length (take count word), ← cut, long, drop-drop count used text)
