@@ -1,25 +1,27 @@
 -- The lines put so far, with those of the records that are left behind them, are the lines of all.
 use Prim.Native.Nat.{suc, _+_, _-_, _≤_}
-use mathlib.Core.Path.{_≡_, refl, _∙_}
+use mathlib.Core.Path.{_≡_, refl, sym, _∙_}
 use mathlib.Core.List.{map}
 use lib.ListN.{length, drop, length-drop}
 use native.Mathlib.Nat.{sub-zero}
 use native.Mathlib.Omega.{arith}
+use Rattle.text.specs.Text.{joined}
+use Rattle.text.specs.Page.{page, put}
+use Rattle.text.proofs.Put.{put-nothing}
 use Rattle.rules.specs.Run.{messagesIn}
-use Rattle.playback.specs.Text.{messageLine}
-use Rattle.playback.specs.Page.{page, putLines}
-use Rattle.playback.proofs.Pages.{messages-short, put-next}
+use Rattle.playback.specs.Lines.{messageLine}
+use Rattle.playback.proofs.Messages.{no-messages, put-next}
 use borrow.Author.Needs.{needs}
-use Rattle.playback.proofs.page.put_messages.Statement.{statement}
-use Rattle.playback.proofs.page.put_messages.Tie as tie
+use Rattle.playback.proofs.lines.put_messages.Statement.{statement}
+use Rattle.playback.proofs.lines.put_messages.Tie as tie
 
 abbrev Inv-loop : tie.InvT-loop
 Inv-loop k groups count sent text₀ used next₀ at₀ i₀ text next at i =
     (i ≤ count)
     × (at ≤ length sent)
     × (length text ≡ length text₀)
-    × (putLines (page text next) (map messageLine (messagesIn k groups (count - i) (drop at sent)))
-    ≡ putLines (page text₀ used) (map messageLine (messagesIn k groups count sent)))
+    × (put (page text next) (joined (map messageLine (messagesIn k groups (count - i) (drop at sent))))
+    ≡ put (page text₀ used) (joined (map messageLine (messagesIn k groups count sent))))
 
 abbrev μ-loop : tie.MeasureT-loop
 μ-loop k groups count sent text₀ used next₀ at₀ i₀ text next at i = count - i
@@ -40,23 +42,23 @@ returns c =
     let l = c .before .before in
     let a = l .before .before .before .args in
     let sent = a .sent .now in
-    let none = messages-short (a .k) (a .groups) (a .count - l .loop .i) (drop (l .loop .at) sent) (omega (arith, length-drop (l .loop .at) sent)) in
-    rw none at (l .loop .inv .3)
+    let none = no-messages (a .k) (a .groups) (a .count - l .loop .i) (drop (l .loop .at) sent) (omega (arith, length-drop (l .loop .at) sent)) in
+    sym (put-nothing _) ∙ (rw none at (l .loop .inv .3))
 
 add-end : tie.Need-add-end Inv-loop μ-loop
 add-end c = search needs
 
-sub-put-message : tie.Need-sub-put-message Inv-loop μ-loop
-sub-put-message c = search needs
+sub-put-record : tie.Need-sub-put-record Inv-loop μ-loop
+sub-put-record c = search needs
 
-part-put-message-start : tie.Need-part-put-message-start Inv-loop μ-loop
-part-put-message-start c = search needs
+part-put-record-start : tie.Need-part-put-record-start Inv-loop μ-loop
+part-put-record-start c = search needs
 
-part-put-message-end : tie.Need-part-put-message-end Inv-loop μ-loop
-part-put-message-end c = search needs
+part-put-record-end : tie.Need-part-put-record-end Inv-loop μ-loop
+part-put-record-end c = search needs
 
-put-message-requires : tie.Need-put-message-requires Inv-loop μ-loop
-put-message-requires c κs = search needs
+put-record-requires : tie.Need-put-record-requires Inv-loop μ-loop
+put-record-requires c κs = search needs
 
 add-i : tie.Need-add-i Inv-loop μ-loop
 add-i c = search needs
@@ -75,8 +77,8 @@ loop-again c =
     let wide : at + 24 - at ≡ 24 = omega arith in (
       omega arith,
       omega arith,
-      p .put-message .kept .1 .1 .1 .0 ∙ l .loop .inv .2,
-      put-next (a .k) (a .groups) (page (l .loop .text) (l .loop .next)) _ (a .count - (i + 1)) at (a .sent .now) (rw wide at (p .put-message .ensures))
+      p .put-record .kept .1 .1 .1 .0 ∙ l .loop .inv .2,
+      put-next (a .k) (a .groups) (page (l .loop .text) (l .loop .next)) _ (a .count - (i + 1)) at (a .sent .now) (rw wide at (p .put-record .ensures))
           ∙ (rw left at (l .loop .inv .3)),
     )
 
@@ -89,7 +91,7 @@ returns-2 c =
     let l = c .before in
     let a = l .before .before .before .args in
     let none : a .count - l .loop .i ≡ 0 = omega arith in
-    rw none at (l .loop .inv .3)
+    sym (put-nothing _) ∙ (rw none at (l .loop .inv .3))
 
 pub put-messages-spec : {M : Type 1} → statement M
 put-messages-spec =
@@ -102,10 +104,10 @@ put-messages-spec =
     same-length
     returns
     add-end
-    sub-put-message
-    part-put-message-start
-    part-put-message-end
-    put-message-requires
+    sub-put-record
+    part-put-record-start
+    part-put-record-end
+    put-record-requires
     add-i
     loop-less
     loop-again
