@@ -1,5 +1,10 @@
 -- The digits that are counted are those of the definition.
+use Prim.Native.Nat.{_-_}
+use mathlib.Core.Path.{_≡_, ap, _∙_}
+use lib.ListN.{take}
 use native.Mathlib.Nat.{sub-zero}
+use Rattle.text.specs.Text.{decimal}
+use Rattle.text.specs.Page.{page, put}
 use Rattle.text.proofs.Decimal.{fewest-decimal}
 use borrow.Author.Needs.{needs}
 use Rattle.text.proofs.put_decimal.Statement.{statement}
@@ -25,11 +30,15 @@ same-length c = search needs
 
 returns : tie.Need-returns
 returns c =
-    let put = c .before .before in
-    let counted = put .before .before .before .before in
+    let done = c .before .before in
+    let counted = done .before .before .before .before in
     let start = counted .before .before .before in
-    rw (← fewest-decimal (start .args .n) (counted .decimal .result) (start .fits .n .fits) (counted .decimal .ensures .1 .0), ← counted .decimal .ensures .1 .1)
-    (rw (sub-zero (counted .decimal .result)) at (put .put-word .ensures))
+    let a = start .args in
+    let count = counted .decimal .result in
+    let same = fewest-decimal (a .n) count (start .fits .n .fits) (counted .decimal .ensures .1 .0) in
+    let digits : take (count - 0) (counted .decimal .last .1 .0) ≡ decimal (a .n) =
+    rw (sub-zero count) (counted .decimal .ensures .1 .1 ∙ same) in
+    done .put-word .ensures ∙ ap (λ t. put (page (a .text .now) (a .used)) t) digits
 
 pub put-decimal-spec : {M : Type 1} → statement M
 put-decimal-spec =

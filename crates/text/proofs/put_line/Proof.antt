@@ -1,5 +1,5 @@
 -- What was put so far, with the numbers that are left behind it, is the word with all numbers behind it.
-use Prim.Native.Nat.{suc, _-_, _≤_}
+use Prim.Native.Nat.{_+_, _-_}
 use mathlib.Core.Path.{_≡_, refl, sym, _∙_}
 use mathlib.Core.List.{[], _∷_, _++_}
 use lib.ListN.{length, drop, getD, drop-of-length-le}
@@ -15,8 +15,7 @@ use Rattle.text.proofs.put_line.Tie as tie
 
 abbrev Inv-loop : tie.InvT-loop
 Inv-loop word numbers text₀ used next₀ i₀ t7 text next i =
-    (i ≤ length numbers)
-    × (length text ≡ length text₀)
+    (length text ≡ length text₀)
     × (put (page text next) (spaced (drop i numbers)) ≡ put (page text₀ next₀) (spaced numbers))
 
 abbrev μ-loop : tie.MeasureT-loop
@@ -26,7 +25,7 @@ put-word-requires : tie.Need-put-word-requires Inv-loop μ-loop
 put-word-requires c κs = search needs
 
 loop-holds : tie.Need-loop-holds Inv-loop μ-loop
-loop-holds c = (omega arith, refl, refl)
+loop-holds c = (refl, refl)
 
 mul-put-number : tie.Need-mul-put-number Inv-loop μ-loop
 mul-put-number c = search needs
@@ -50,11 +49,10 @@ loop-again c =
     let numbers = l .before .before .before .before .before .before .before .before .args .numbers .now in
     let i = l .loop .i in
     let here = page (l .loop .text) (l .loop .next) in
-    let left : drop i numbers ≡ getD numbers i 0 ∷ drop (suc i) numbers = drop-cons numbers i 0 (omega arith) in (
-      omega arith,
-      p .put-number .kept .1 .0 ∙ l .loop .inv .1,
-      rw (add-one i, p .put-number .ensures)
-      (put-put here (32 ∷ decimal (getD numbers i 0)) (spaced (drop (suc i) numbers)) ∙ (rw left at (l .loop .inv .2))),
+    let left : drop i numbers ≡ getD numbers i 0 ∷ drop (i + 1) numbers = rw (add-one i) (drop-cons numbers i 0 (omega arith)) in (
+      p .put-number .kept .1 .0 ∙ l .loop .inv .0,
+      rw (p .put-number .ensures)
+          (put-put here (32 ∷ decimal (getD numbers i 0)) (spaced (drop (i + 1) numbers)) ∙ (rw left at (l .loop .inv .1))),
     )
 
 slice-aggregate-put-word : tie.Need-slice-aggregate-put-word Inv-loop μ-loop
@@ -73,14 +71,16 @@ returns c =
     let l = last .before .before .before .before in
     let first = l .before .before .before in
     let a = first .before .before .before .before .before .args in
+    let start = page (a .text .now) (a .used) in
+    let here = page (l .loop .text) (l .loop .next) in
+    let word = a .word .now in
     let numbers = a .numbers .now in
     let none : drop (l .loop .i) numbers ≡ [] = drop-of-length-le numbers {i = l .loop .i} (omega arith) in
-    let all : page (l .loop .text) (l .loop .next) ≡ put (page (first .put-word .last .1 .0) (first .put-word .result)) (spaced numbers) =
-    sym (put-nothing _) ∙ (rw none at (l .loop .inv .2)) in
-    let start = page (a .text .now) (a .used) in
-    let word = a .word .now in
-    rw (last .put-word2 .ensures, all, first .put-word .ensures, put-put (put start word) (spaced numbers) (10 ∷ []))
-    (put-put start word (spaced numbers ++ (10 ∷ [])))
+    let all : here ≡ put (put start word) (spaced numbers) =
+    sym (put-nothing here) ∙ (rw (none, first .put-word .ensures) at (l .loop .inv .1)) in
+    let ended : put here (10 ∷ []) ≡ put start (line word numbers) =
+    rw (all, put-put (put start word) (spaced numbers) (10 ∷ [])) (put-put start word (spaced numbers ++ (10 ∷ []))) in
+    last .put-word2 .ensures ∙ ended
 
 pub put-line-spec : {M : Type 1} → statement M
 put-line-spec =
