@@ -103,18 +103,16 @@ put-put p a b = both (leb (p .used) (length (p .bytes))) refl where
       let h = leb-false (p .used) (length (p .bytes)) e in
       rw (put-full p a (omega arith), put-full p b (omega arith), put-full p (a ++ b) (omega arith))
 
--- through the part of the text behind what is used, and as much of the word as fits
-pub put-part : (text : List ℕ) (used : ℕ) (word last : List ℕ) (count : ℕ) → used ≤ length text →
-    count ≡ min (length word) (length text - used) →
-    (let fits = take count word in
-    last ≡ take (length fits) fits ++ drop (length fits) (take (length text - used) (drop used text))) →
+-- as much of the word as fits, through the part of the text behind what is used
+pub put-part : (text : List ℕ) (used : ℕ) (word part last : List ℕ) (count : ℕ) → used ≤ length text →
+    count ≡ min (length word) (length text - used) → part ≡ take count word →
+    last ≡ take (length part) part ++ drop (length part) (take (length text - used) (drop used text)) →
     page (putMid used (length text - used) text last) (used + count) ≡ put (page text used) word
 unfolding put
-put-part text used word last count h same e =
-    let rest : take (length text - used) (drop used text) ≡ drop used text =
-    take-all (length text - used) (drop used text) (rw length-drop (omega arith)) in
-    let none : drop (length text - used) (drop used text) ≡ [] =
-    drop-of-length-le (drop used text) {i = length text - used} (rw length-drop (omega arith)) in
-    let long : length (take count word) ≡ count = length-take-le count word (omega arith) in
-    let cut : take count word ≡ take (length text - used) word = rw same (take-min (length text - used) word) in
-    rw (none, append-nil, e, rest, take-length (take count word), ← cut, long, drop-drop count used text)
+put-part text used word part last count h same first e =
+    let free = length text - used in
+    let rest : take free (drop used text) ≡ drop used text = take-all free (drop used text) (rw length-drop (omega arith)) in
+    let none : drop free (drop used text) ≡ [] = drop-of-length-le (drop used text) {i = free} (rw length-drop (omega arith)) in
+    let long : length part ≡ count = rw first (length-take-le count word (omega arith)) in
+    let cut : take free word ≡ part = rw first (sym (rw same (take-min free word))) in
+    rw (none, append-nil, e, rest, take-length part, cut, long, drop-drop count used text)

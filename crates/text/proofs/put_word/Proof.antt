@@ -1,5 +1,7 @@
 -- The part of the text that is lent begins behind what is used.
+use Prim.Native.Nat.{_-_}
 use mathlib.Core.Path.{sym}
+use lib.ListN.{take}
 use native.Mathlib.Nat.{sub-zero}
 use native.Mathlib.Omega.{arith}
 use Rattle.text.specs.Page.{page}
@@ -52,8 +54,9 @@ returns-2 c =
     let counted = copied .before .before .before in
     let a = counted .before .before .before .before .args in
     let count = counted .at-most .result in
-    put-part (a .text .now) (a .used) (a .word .now) (copied .copy .last .1 .0) count (omega arith) (counted .at-most .ensures)
-    (rw (sub-zero count) at (copied .copy .ensures .1))
+    put-part (a .text .now) (a .used) (a .word .now) (take (count - 0) (a .word .now)) (copied .copy .last .1 .0) count (omega arith) (counted .at-most .ensures)
+    (rw (sub-zero count))
+    (copied .copy .ensures .1)
 
 pub put-word-spec : {M : Type 1} → statement M
 put-word-spec =
