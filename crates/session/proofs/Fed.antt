@@ -1,29 +1,28 @@
 -- A session that is fed in its order at local time 0 and closed by a step meets all that the third demand supposes of a run.
 use Prim.Native.Nat.{ℕ, _+_, _^_, _≤_, _<_}
-use mathlib.Core.Path.{_≡_, refl, sym, ap, _∙_}
-use mathlib.Core.Bool.{Bool, true, cond}
+use mathlib.Core.Path.{_≡_, refl}
+use mathlib.Core.Bool.{true}
 use mathlib.Core.Logic.{inl}
-use mathlib.Core.List.{List, [], _∷_, _++_, map, List·Memᴰ}
+use mathlib.Core.List.{List, [], _∷_, _++_, map}
 use native.Mathlib.Omega.{arith}
-use lib.ListN.{length, replicate}
+use lib.ListN.{replicate}
 use borrow.Author.Tests.{le-leb, lt-ltb}
 use Rattle.limits.specs.Limits.{maxDelta, outputSize}
 use Rattle.question.specs.Question.{Answer, given, refused, isGiven, ask, after, mapAnswer, unitQuestions}
 use Rattle.layout.specs.Number.{number, digits}
 use Rattle.layout.specs.Layout.{fieldsOf, bytesOf}
-use Rattle.layout.specs.declared.clock.LocalTime.{LocalTime}
 use Rattle.record.specs.Record.{requestFields, fieldQuestions, readFields}
 use Rattle.record.specs.declared.request.Request.{Request}
-use Rattle.rules.specs.Lists.{every, some}
+use Rattle.rules.specs.Lists.{every}
 use Rattle.rules.specs.Replica.{State, newState, requestsOf, make, admit, arrive, deliver, step}
-use Rattle.rules.specs.Run.{Call, turn, call, run, arrivals, stepOf, stepTimes}
+use Rattle.rules.specs.Run.{call, arrivals, stepTimes}
 use Rattle.rules.specs.Sample.{deliverAt, stepAt}
 use Rattle.rules.specs.declared.Pending.{Pending}
 use Rattle.failstop.specs.Suppose.{closes, Orderly}
 use Rattle.failstop.specs.Runs.{Lent, account}
 use Rattle.failstop.proofs.Computed.{deliversBytes, computed-lent}
 use Rattle.laws.proofs.Lists.{map-in}
-use Rattle.session.specs.Session.{unit, session, places, sessionCalls}
+use Rattle.session.specs.Session.{unit, session, sessionCalls}
 use Rattle.session.proofs.Places.{at-place}
 
 -- ── what arrives, computed ──

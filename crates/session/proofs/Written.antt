@@ -1,6 +1,6 @@
 -- The records of a session are written: each of its requests passes the request questions. Assumes nothing.
 use Prim.Native.Nat.{ℕ, _≤_}
-use mathlib.Core.Path.{_≡_, refl}
+use mathlib.Core.Path.{_≡_}
 use mathlib.Core.List.{append-nil}
 use lib.ListN.{replicate}
 use borrow.Author.Tests.{le-leb}

@@ -1,6 +1,6 @@
 -- The sheet as it is written, line by line. Assumes nothing.
 use Prim.Native.Nat.{ℕ, zero, suc, _+_, _-_, _≤_, _<_}
-use mathlib.Core.Path.{_≡_, refl, sym, ap, _∙_}
+use mathlib.Core.Path.{_≡_, refl, ap, _∙_}
 use mathlib.Core.List.{List, [], _∷_, _++_, map}
 use native.Mathlib.Nat.{zero-add}
 use native.Mathlib.Omega.{arith}
@@ -11,7 +11,6 @@ use Rattle.text.specs.Text.{decimalIn, decimal, line, joined}
 use Rattle.text.specs.Page.{Page, page, put}
 use Rattle.text.proofs.Put.{put-put, put-nothing, put-room}
 use Rattle.session.specs.Session.{choices, countUp, figuresOf}
-use Rattle.session.specs.declared.Figures.{Figures}
 use Rattle.sheet.specs.Sheet.{digitsWord, sessionLine, sheet}
 
 -- ── how long it is, computed ──
@@ -29,11 +28,12 @@ choice-small place (suc (suc zero)) = omega arith
 choice-small place (suc (suc (suc zero))) = omega arith
 choice-small place (suc (suc (suc (suc i)))) = omega arith
 
-pub put-session : (p : Page) {q r : Page} (place : ℕ) {word : List ℕ} {f : Figures} → word ≡ digitsWord place → f ≡ figuresOf place
-    → q ≡ put p (decimal place) → r ≡ put q (line word (f .failed ∷ f .value ∷ f .writes ∷ [])) → r ≡ put p (sessionLine place)
-put-session p {q} {r} place {word} {f} w e first second =
-    second ∙ (ap (λ x. put x (line word (f .failed ∷ f .value ∷ f .writes ∷ []))) first
-    ∙ (put-put p (decimal place) (line word (f .failed ∷ f .value ∷ f .writes ∷ [])) ∙ rw (w, e)))
+pub put-session : (p : Page) {q r : Page} (place : ℕ) {word : List ℕ} {failed value writes : ℕ} → word ≡ digitsWord place
+    → q ≡ put p (decimal place) → r ≡ put q (line word (failed ∷ value ∷ writes ∷ []))
+    → failed ≡ figuresOf place .failed → value ≡ figuresOf place .value → writes ≡ figuresOf place .writes → r ≡ put p (sessionLine place)
+put-session p place {word} {failed} {value} {writes} w first second f v n =
+    let figures = line word (failed ∷ value ∷ writes ∷ []) in
+    second ∙ (ap (λ x. put x figures) first ∙ (put-put p (decimal place) figures ∙ rw (w, f, v, n)))
 
 -- ── all lines ──
 

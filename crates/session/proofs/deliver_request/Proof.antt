@@ -1,5 +1,5 @@
 -- What is delivered is the record of the request.
-use mathlib.Core.Path.{_≡_, ap, _∙_}
+use mathlib.Core.Path.{ap, _∙_}
 use lib.ListN.{replicate}
 use Rattle.limits.specs.Limits.{recordSize}
 use Rattle.question.specs.Question.{after}

@@ -1,6 +1,6 @@
 -- The calls are those of the session.
 use Prim.Native.Nat.{_<_}
-use mathlib.Core.Path.{_≡_, _∙_}
+use mathlib.Core.Path.{_∙_}
 use native.Mathlib.Omega.{arith}
 use Rattle.session.proofs.Brought.{brought}
 use borrow.Author.Needs.{needs}

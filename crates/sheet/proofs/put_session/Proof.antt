@@ -1,5 +1,8 @@
 -- The place, its digits and the figures, one behind the other.
+use mathlib.Core.Path.{ap}
+use native.Mathlib.Omega.{arith}
 use Rattle.text.specs.Page.{page}
+use Rattle.session.specs.declared.Figures.{Figures}
 use Rattle.sheet.proofs.Sheets.{put-session}
 use borrow.Author.Needs.{needs}
 use Rattle.sheet.proofs.put_session.Statement.{statement}
@@ -39,8 +42,12 @@ returns c =
     let figured = numbered .before .before .before .before in
     let worded = figured .before in
     let start = worded .before .before in
-    put-session (page (start .args .text .now) (start .args .used)) (start .args .place) (worded .digits-of .ensures) (figured .session-figures .ensures)
+    let shown = figured .session-figures .ensures in
+    put-session (page (start .args .text .now) (start .args .used)) (start .args .place) (worded .digits-of .ensures)
     (numbered .put-decimal .ensures) (lined .put-line .ensures)
+    (omega (arith, ap (λ (f : Figures). f .failed) shown))
+    (omega (arith, ap (λ (f : Figures). f .value) shown))
+    (omega (arith, ap (λ (f : Figures). f .writes) shown))
 
 pub put-session-spec : {M : Type 1} → statement M
 put-session-spec =
