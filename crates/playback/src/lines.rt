@@ -1,13 +1,13 @@
 // A journal's lines, put into a lent text one behind the other, as the library `text` does.
 ghost use mathlib.Core.Path.{_≡_};
-ghost use mathlib.Core.List.{map};
+ghost use mathlib.Core.List.{[], _∷_, _++_, map};
 ghost use Rattle.text.specs.Text.{joined};
 ghost use Rattle.text.specs.Page.{page, put};
 ghost use Rattle.record.specs.Record.{readMessage};
 ghost use Rattle.rules.specs.Run.{accepted, messagesIn};
 ghost use Rattle.batch.specs.State.{stateOf};
 ghost use Rattle.replica.specs.Answer.{stepAnswer};
-ghost use Rattle.playback.specs.Lines.{messageLine, refusalLine, answerLines, cardLine};
+ghost use Rattle.playback.specs.Lines.{firstFour, messageLine, refusalLine, answerLines, cardLine};
 use limits::RECORD;
 use record::Message;
 use record::MessageRead;
@@ -15,17 +15,24 @@ use record::REPLY;
 use replica::Replica;
 use replica::StepAnswer;
 
-fn put_message(m: Message, text: &mut [u8], used: usize) -> usize
-    ensures { λ n. ⌜ page (now (text .exit)) n ≡ put (page (now (text .entry)) used) (messageLine m) ⌝ }
+// The numbers of a reply's line; a halt's line has the first four.
+fn numbers_of(m: Message) -> [u64; 6]
+    ensures { λ l. ⌜ l ≡ firstFour m ++ (m .variable ∷ m .value ∷ []) ⌝ }
 {
-    let numbers = [
+    [
         m.replica as u64,
         m.group as u64,
         m.process as u64,
         m.timestamp.0,
         m.variable as u64,
         m.value as u64,
-    ];
+    ]
+}
+
+fn put_message(m: Message, text: &mut [u8], used: usize) -> usize
+    ensures { λ n. ⌜ page (now (text .exit)) n ≡ put (page (now (text .entry)) used) (messageLine m) ⌝ }
+{
+    let numbers = numbers_of(m);
     if m.kind == REPLY {
         return text::put_line(b"reply", &numbers, text, used);
     }

@@ -5,20 +5,8 @@ use borrow.Author.Needs.{needs}
 use Rattle.playback.proofs.lines.put_message.Statement.{statement}
 use Rattle.playback.proofs.lines.put_message.Tie as tie
 
-cast-t7 : tie.Need-cast-t7
-cast-t7 c = search needs
-
-cast-t8 : tie.Need-cast-t8
-cast-t8 c = search needs
-
-cast-t9 : tie.Need-cast-t9
-cast-t9 c = search needs
-
-cast-t10 : tie.Need-cast-t10
-cast-t10 c = search needs
-
-cast-t11 : tie.Need-cast-t11
-cast-t11 c = search needs
+numbers-of-requires : tie.Need-numbers-of-requires
+numbers-of-requires c κs = search needs
 
 slice-aggregate-put-line : tie.Need-slice-aggregate-put-line
 slice-aggregate-put-line c = search needs
@@ -36,8 +24,9 @@ returns : tie.Need-returns
 returns c =
     let put = c .before .before in
     let taken = put .before .before .before .before in
-    let m = taken .before .before .before .before .before .before .before .before .args .m in
-    rw (eq-eqb (m .kind) reply (taken .if1 .taken)) (put .put-line .ensures)
+    let numbered = taken .before .before in
+    let m = numbered .before .before .args .m in
+    rw (eq-eqb (m .kind) reply (taken .if1 .taken)) (rw (numbered .numbers-of .ensures) at (put .put-line .ensures))
 
 slice-aggregate-put-line-3 : tie.Need-slice-aggregate-put-line-3
 slice-aggregate-put-line-3 c = search needs
@@ -61,18 +50,15 @@ returns-2 : tie.Need-returns-2
 returns-2 c =
     let put = c .before .before in
     let left = put .before .before .before .before .before in
-    let m = left .before .before .before .before .before .before .before .before .args .m in
-    rw (ne-eqb (m .kind) reply (left .if1 .left)) (put .put-line2 .ensures)
+    let numbered = left .before .before in
+    let m = numbered .before .before .args .m in
+    rw (ne-eqb (m .kind) reply (left .if1 .left)) (rw (numbered .numbers-of .ensures) at (put .put-line2 .ensures))
 
 pub put-message-spec : {M : Type 1} → statement M
 put-message-spec =
     tie.close
     (tie.spec
-    cast-t7
-    cast-t8
-    cast-t9
-    cast-t10
-    cast-t11
+    numbers-of-requires
     slice-aggregate-put-line
     slice-aggregate-put-line-2
     put-line-requires
