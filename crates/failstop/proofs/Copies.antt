@@ -34,7 +34,7 @@ use Rattle.failstop.proofs.Arrivals.{Going, run-sendable, Owned, arriva
 use Rattle.failstop.proofs.Replica.{run-is-machine}
 use Rattle.failstop.proofs.Order.{machine-rising, signed-rising}
 
-all-lent : (calls : List Call) → Lent calls → AllLent calls
+pub all-lent : (calls : List Call) → Lent calls → AllLent calls
 all-lent calls lent (delivery bytes now) i = lent bytes now i
 all-lent calls lent (turn now output) i = tt
 

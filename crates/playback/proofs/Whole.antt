@@ -1,11 +1,10 @@
 -- Document 01's whole run, computed: k = 0, N = 1, owner 1, δ = 5. At 100 a write of 9 to variable 3, at 102 a read of it,
 -- and turns at 105, 106 and 108.
 use Prim.Native.Nat.{ℕ}
-use Prim.Native.Char.{code}
-use Prim.Native.String as text
 use mathlib.Core.Path.{_≡_, refl}
 use mathlib.Core.List.{List, [], _∷_, _++_}
 use lib.ListN.{replicate}
+use Rattle.text.proofs.Ascii.{ascii}
 use Rattle.text.specs.Text.{decimalIn, decimal, line}
 use Rattle.question.specs.Question.{ask, unitQuestions}
 use Rattle.layout.specs.Number.{number, digits}
@@ -42,10 +41,6 @@ input =
     setup ++ (delivery 100 write 50 9 ++ (delivery 102 read 51 0 ++ (turn 105 ++ (turn 106 ++ turn 108))))
 
 -- ── the text ──
-
-abbrev ascii : text.String → List ℕ
-ascii text.[] = []
-ascii (text._∷_ c s) = code c ∷ ascii s
 
 pub whole-run : journal input ≡ ascii "reply 1 1 1 51 3 9\ncard 1 0 1\n"
 unfolding ask unitQuestions number digits fieldsOf bytesOf fieldQuestions readFields writeFields verdictOf handle admit deliver handleBatch visit visits put putAll stepped step messagesIn readSetup readEntry playEntry decimalIn decimal line playAll journal

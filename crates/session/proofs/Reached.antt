@@ -1,7 +1,7 @@
 -- Every replica that held a session has the register machine's figures. It is the third demand, of a unit in which the two other
 -- replicas are fed the session in its order.
 use Prim.Native.Nat.{ℕ, _≤_, _<_}
-use mathlib.Core.Path.{_≡_, refl, ap, subst, _∙_}
+use mathlib.Core.Path.{_≡_, refl, sym, ap, subst, _∙_}
 use mathlib.Core.Bool.{Bool, false, cond}
 use mathlib.Core.List.{List}
 use native.Mathlib.Omega.{arith}
@@ -16,10 +16,12 @@ use Rattle.rules.specs.Run.{Call}
 use Rattle.laws.proofs.Accepted.{make-made}
 use Rattle.failstop.specs.Suppose.{Account, Correct, Orderly, Supposed}
 use Rattle.failstop.specs.Runs.{Lent, Ran, account, accountOf}
+use Rattle.failstop.proofs.Copies.{all-lent}
 use Rattle.failstop.proofs.Demand3.{demand3}
 use Rattle.batch.specs.State.{stateOf}
 use Rattle.unit.specs.Life.{Life}
 use Rattle.unit.proofs.Accounts.{callsOf, life-made, life-account, life-lent}
+use Rattle.unit.proofs.Lives.{lifeOf, life-lived, life-account-is}
 use Rattle.session.specs.Session.{unit, session, sessionCalls, figuresIn, figuresOf}
 use Rattle.session.specs.Held.{Held}
 use Rattle.session.proofs.Fed.{fed-lent, fed-orderly, fed-made}
@@ -76,3 +78,16 @@ session-reaches delta number place l small held =
     ap (λ (a : Account). figuresIn (a .store)) same
     ∙ run-reaches delta number place small (callsOf (l .events)) (life-made u number l (held .lived)) (life-lent u number l (held .lived))
     (subst (Orderly u (session place)) same (held .orderly))
+
+-- and there are such replicas, of each number, for each session
+pub fed-held : (delta number place : ℕ) → delta ≤ maxDelta → 1 ≤ number → number ≤ 3 → place < 256
+    → Held delta number place (lifeOf (unit delta) number (sessionCalls delta place))
+fed-held delta number place short low high small =
+    let u = unit delta in
+    let calls = sessionCalls delta place in
+    let made = fed-made delta number short low high in
+    let lent = all-lent calls (fed-lent delta place small) in
+    record {
+      lived = life-lived u number calls made lent;
+      orderly = subst (Orderly u (session place)) (sym (life-account-is u number calls made lent)) (fed-orderly delta number place short small);
+    }
