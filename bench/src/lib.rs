@@ -1,5 +1,6 @@
-//! An independent model of the fail-stop store of document 01, and what
-//! compares the verified implementation with it.
+//! An independent model of the fail-stop store of document 01, with the
+//! requests of document 02 that have landed, and what compares the verified
+//! implementation with it.
 
 #![deny(unsafe_code)]
 

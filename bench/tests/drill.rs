@@ -6,7 +6,7 @@ use bench::model::drill::{figures, orders, requests, sessions, Figures};
 use bench::model::record::Request;
 use bench::model::OUTPUT_SIZE;
 
-/// Gets the requests one time unit apart; the step comes so much after the last of them.
+/// Gets the requests one time unit apart, and a step `wait` after the last of them.
 fn fed(number: u8, delta: u64, order: &[Request], wait: u64) -> Replica {
     let made = make(Settings { k: 1, groups: 1, owner: 1, delta }, number);
     assert_eq!(made.refusal, 0);
@@ -43,8 +43,8 @@ fn every_replica_reaches_them_in_every_order() {
             }
         }
     }
-    println!("{fed_sessions} sessions fed");
-    assert!(fed_sessions > 10_000);
+    // 2,713 orders, three replicas, two deltas.
+    assert_eq!(fed_sessions, 16_278);
 }
 
 /// A step exactly delta after the last arrival does not close a session.

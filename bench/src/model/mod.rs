@@ -1,4 +1,5 @@
-//! The store of document 01 in ordinary Rust, written from the document alone.
+//! The store of document 01, and the drill sheet of document 02, in ordinary
+//! Rust, written from the documents alone.
 //!
 //! Terms: process = program card, replica = storage card, timestamp = stamp,
 //! local time = reading, step = turn, pending = shelf, batch = head,

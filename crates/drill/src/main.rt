@@ -7,6 +7,7 @@ const STDERR: i32 = 2;
 
 fn main() {
     let mut text = [0u8; SHEET];
+    // Never refused: the text is as long as the sheet.
     sheet::write_sheet(&mut text);
     if !io::write_all(STDOUT, &text) {
         io::write_all(STDERR, b"drill: cannot write\n");

@@ -7,7 +7,7 @@ use lib.Seq.{take-all, drop-drop}
 use native.Mathlib.Omega.{arith}
 use Rattle.limits.specs.Limits.{recordSize}
 use Rattle.text.specs.Text.{joined}
-use Rattle.text.specs.Page.{Page, put}
+use Rattle.text.specs.Page.{Page, putText}
 use Rattle.text.proofs.Lines.{joined-append}
 use Rattle.text.proofs.Put.{put-put}
 use Rattle.question.specs.Question.{Answer, given, refused}
@@ -41,9 +41,9 @@ module _ (k n : ℕ) where
 
   -- one record's line, then those of the records behind it
   pub put-next : (p q : Page) (count at : ℕ) (sent : List ℕ) →
-      q ≡ put p (joined (map messageLine (accepted (readMessage k n (take recordSize (drop at sent)))))) →
-      put q (joined (map messageLine (messagesIn k n count (drop (at + recordSize) sent))))
-      ≡ put p (joined (map messageLine (messagesIn k n (suc count) (drop at sent))))
+      q ≡ putText p (joined (map messageLine (accepted (readMessage k n (take recordSize (drop at sent)))))) →
+      putText q (joined (map messageLine (messagesIn k n count (drop (at + recordSize) sent))))
+      ≡ putText p (joined (map messageLine (messagesIn k n (suc count) (drop at sent))))
   unfolding messagesIn
   put-next p q count at sent e =
       let first = accepted (readMessage k n (take recordSize (drop at sent))) in

@@ -2,7 +2,7 @@
 -- and turns at 105, 106 and 108.
 use Prim.Native.Nat.{ℕ}
 use mathlib.Core.Path.{_≡_, refl}
-use mathlib.Core.List.{List, [], _∷_, _++_}
+use mathlib.Core.List.{List, _∷_, _++_}
 use lib.ListN.{replicate}
 use Rattle.text.proofs.Ascii.{ascii}
 use Rattle.text.specs.Text.{decimalIn, decimal, line}

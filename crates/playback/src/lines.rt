@@ -2,7 +2,7 @@
 ghost use mathlib.Core.Path.{_≡_};
 ghost use mathlib.Core.List.{[], _∷_, _++_, map};
 ghost use Rattle.text.specs.Text.{joined};
-ghost use Rattle.text.specs.Page.{page, put};
+ghost use Rattle.text.specs.Page.{page, putText};
 ghost use Rattle.record.specs.Record.{readMessage};
 ghost use Rattle.rules.specs.Run.{accepted, messagesIn};
 ghost use Rattle.batch.specs.State.{stateOf};
@@ -30,7 +30,7 @@ fn numbers_of(m: Message) -> [u64; 6]
 }
 
 fn put_message(m: Message, text: &mut [u8], used: usize) -> usize
-    ensures { λ n. ⌜ page (now (text .exit)) n ≡ put (page (now (text .entry)) used) (messageLine m) ⌝ }
+    ensures { λ n. ⌜ page (now (text .exit)) n ≡ putText (page (now (text .entry)) used) (messageLine m) ⌝ }
 {
     let numbers = numbers_of(m);
     if m.kind == REPLY {
@@ -41,7 +41,7 @@ fn put_message(m: Message, text: &mut [u8], used: usize) -> usize
 
 // The line of a record that a step wrote.
 fn put_record(k: u8, groups: u8, bytes: &[u8], text: &mut [u8], used: usize) -> usize
-    ensures { λ n. ⌜ page (now (text .exit)) n ≡ put (page (now (text .entry)) used) (joined (map messageLine (accepted (readMessage k groups (now (bytes .entry)))))) ⌝ }
+    ensures { λ n. ⌜ page (now (text .exit)) n ≡ putText (page (now (text .entry)) used) (joined (map messageLine (accepted (readMessage k groups (now (bytes .entry)))))) ⌝ }
 {
     match record::read_message(k, groups, bytes) {
         MessageRead::Accepted(m) => put_message(m, text, used),
@@ -51,7 +51,7 @@ fn put_record(k: u8, groups: u8, bytes: &[u8], text: &mut [u8], used: usize) -> 
 
 // A line for each of the first `count` records.
 fn put_messages(k: u8, groups: u8, count: usize, sent: &[u8], text: &mut [u8], used: usize) -> usize
-    ensures { λ n. ⌜ page (now (text .exit)) n ≡ put (page (now (text .entry)) used) (joined (map messageLine (messagesIn k groups count (now (sent .entry))))) ⌝ }
+    ensures { λ n. ⌜ page (now (text .exit)) n ≡ putText (page (now (text .entry)) used) (joined (map messageLine (messagesIn k groups count (now (sent .entry))))) ⌝ }
 {
     let mut next = used;
     let mut at: usize = 0;
@@ -78,7 +78,7 @@ pub fn put_answer(
     text: &mut [u8],
     used: usize,
 ) -> usize
-    ensures { λ n. ⌜ page (now (text .exit)) n ≡ put (page (now (text .entry)) used) (joined (answerLines k groups place (stepAnswer answer) (now (sent .entry)))) ⌝ }
+    ensures { λ n. ⌜ page (now (text .exit)) n ≡ putText (page (now (text .entry)) used) (joined (answerLines k groups place (stepAnswer answer) (now (sent .entry)))) ⌝ }
 {
     match answer {
         StepAnswer::Sent(count) => put_messages(k, groups, count, sent, text, used),
@@ -87,14 +87,14 @@ pub fn put_answer(
 }
 
 pub fn put_refusal(place: u64, number: u8, text: &mut [u8], used: usize) -> usize
-    ensures { λ n. ⌜ page (now (text .exit)) n ≡ put (page (now (text .entry)) used) (refusalLine place number) ⌝ }
+    ensures { λ n. ⌜ page (now (text .exit)) n ≡ putText (page (now (text .entry)) used) (refusalLine place number) ⌝ }
 {
     let numbers = [place, number as u64];
     text::put_line(b"no", &numbers, text, used)
 }
 
 pub fn put_card(r: Replica, text: &mut [u8], used: usize) -> usize
-    ensures { λ n. ⌜ page (now (text .exit)) n ≡ put (page (now (text .entry)) used) (cardLine (stateOf r)) ⌝ }
+    ensures { λ n. ⌜ page (now (text .exit)) n ≡ putText (page (now (text .entry)) used) (cardLine (stateOf r)) ⌝ }
 {
     let failed = r.variables[0] as u64;
     let numbers = [r.number as u64, failed, r.writes];

@@ -9,8 +9,10 @@ use Rattle.rules.specs.Batch.{verdictOf, handle}
 use Rattle.rules.specs.Replica.{newState, admit, deliver, handleBatch, visit, visits, put, putAll, stepped, step}
 use Rattle.rules.specs.Run.{messagesIn, call, run}
 use Rattle.rules.specs.Machine.{react, reactAll, machine}
-use Rattle.session.specs.Session.{unit, places, sessionCalls, figuresIn, figuresOf}
+use Rattle.session.proofs.Fed.{sessionCalls}
+use Rattle.session.proofs.Brought.{delta}
+use Rattle.session.specs.Session.{unit, allPlaces, figuresIn, figuresOf}
 
-pub figures-checked : map (λ place. figuresIn (run (newState (unit 5) 1) (sessionCalls 5 place) .state .store)) places ≡ map figuresOf places
+pub figures-checked : map (λ place. figuresIn (run (newState (unit delta) 1) (sessionCalls delta place) .state .store)) allPlaces ≡ map figuresOf allPlaces
 unfolding ask unitQuestions number digits fieldsOf bytesOf fieldQuestions readFields writeFields verdictOf handle admit deliver handleBatch visit visits put putAll stepped step messagesIn call run react reactAll machine figuresOf
 figures-checked = refl

@@ -1,5 +1,5 @@
 -- A session that is fed in its order at local time 0 and closed by a step meets all that the third demand supposes of a run.
-use Prim.Native.Nat.{ℕ, _+_, _^_, _≤_, _<_}
+use Prim.Native.Nat.{ℕ, _+_, _≤_, _<_}
 use mathlib.Core.Path.{_≡_, refl}
 use mathlib.Core.Bool.{true}
 use mathlib.Core.Logic.{inl}
@@ -7,7 +7,7 @@ use mathlib.Core.List.{List, [], _∷_, _++_, map}
 use native.Mathlib.Omega.{arith}
 use lib.ListN.{replicate}
 use borrow.Author.Tests.{le-leb, lt-ltb}
-use Rattle.limits.specs.Limits.{maxDelta, outputSize}
+use Rattle.limits.specs.Limits.{maxDelta, maxTime, outputSize}
 use Rattle.question.specs.Question.{Answer, given, refused, isGiven, ask, after, mapAnswer, unitQuestions}
 use Rattle.layout.specs.Number.{number, digits}
 use Rattle.layout.specs.Layout.{fieldsOf, bytesOf}
@@ -15,15 +15,19 @@ use Rattle.record.specs.Record.{requestFields, fieldQuestions, readFields}
 use Rattle.record.specs.declared.request.Request.{Request}
 use Rattle.rules.specs.Lists.{every}
 use Rattle.rules.specs.Replica.{State, newState, requestsOf, make, admit, arrive, deliver, step}
-use Rattle.rules.specs.Run.{call, arrivals, stepTimes}
+use Rattle.rules.specs.Run.{Call, call, arrivals, stepTimes}
 use Rattle.rules.specs.Sample.{deliverAt, stepAt}
 use Rattle.rules.specs.declared.Pending.{Pending}
 use Rattle.failstop.specs.Suppose.{closes, Orderly}
 use Rattle.failstop.specs.Runs.{Lent, account}
 use Rattle.failstop.proofs.Computed.{deliversBytes, computed-lent}
 use Rattle.laws.proofs.Lists.{map-in}
-use Rattle.session.specs.Session.{unit, session, sessionCalls}
+use Rattle.session.specs.Session.{unit, session}
 use Rattle.session.proofs.Places.{at-place}
+
+-- the session's requests in their order at local time 0, and a step more than δ later
+abbrev pub sessionCalls : ℕ → ℕ → List Call
+sessionCalls delta place = map (deliverAt 0) (session place) ++ (stepAt (delta + 1) ∷ [])
 
 -- ── what arrives, computed ──
 
@@ -54,7 +58,7 @@ call-last s r e = go (admit s (bytesOf (requestFields r)) (record { 0 = 0 }))
 -- a step is accepted at a time that is not past and not too late
 step-given : (s : State) (t : ℕ) → s .last .0 ≡ 0 → t ≤ maxDelta + 1 → isGiven (step s (record { 0 = t }) (replicate outputSize 0)) ≡ true
 unfolding ask step
-step-given s t e small = rw (e, le-leb t (2 ^ 62) (omega arith), le-leb 0 t (omega arith))
+step-given s t e small = rw (e, le-leb t maxTime (omega arith), le-leb 0 t (omega arith))
 
 -- after the deliveries only the step counts, and it is accepted
 fed-times : (bag : List Request) (s : State) (t : ℕ) → s .last .0 ≡ 0 → t ≤ maxDelta + 1
@@ -87,4 +91,4 @@ fed-orderly delta number place short small =
 
 pub fed-made : (delta number : ℕ) → delta ≤ maxDelta → 1 ≤ number → number ≤ 3 → make (unit delta) number ≡ given (newState (unit delta) number)
 unfolding ask unitQuestions make
-fed-made delta number short low high = rw (le-leb delta 1000000 short, le-leb 1 number low, le-leb number 3 high)
+fed-made delta number short low high = rw (le-leb delta maxDelta short, le-leb 1 number low, le-leb number 3 high)

@@ -7,7 +7,7 @@ use native.Mathlib.Omega.{arith}
 use lib.Dec.{eqb}
 use borrow.Author.Tests.{eqb-true, eqb-false}
 use Rattle.question.proofs.Tests.{case}
-use Rattle.session.specs.Session.{countUp, places}
+use Rattle.session.specs.Session.{countUp, allPlaces}
 
 count-has : (n start i : ℕ) → start ≤ i → i < start + n → List·Memᴰ i (countUp start n)
 count-has zero start i low high = absurd (omega (arith, low, high))
@@ -24,5 +24,5 @@ module _ {A B : Type 0} (f g : A → B) where
       (λ (j : List·Memᴰ x l). let tail : map f l ≡ map g l = cc in map-at l tail x j)
       (List·Memᴰ·cases-cons i)
 
-pub at-place : {B : Type 0} (f g : ℕ → B) → map f places ≡ map g places → (place : ℕ) → place < 256 → f place ≡ g place
-at-place f g e place small = map-at f g places e place (count-has 256 0 place (omega arith) (omega arith))
+pub at-place : {B : Type 0} (f g : ℕ → B) → map f allPlaces ≡ map g allPlaces → (place : ℕ) → place < 256 → f place ≡ g place
+at-place f g e place small = map-at f g allPlaces e place (count-has 256 0 place (omega arith) (omega arith))

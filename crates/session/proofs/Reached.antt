@@ -22,12 +22,12 @@ use Rattle.batch.specs.State.{stateOf}
 use Rattle.unit.specs.Life.{Life}
 use Rattle.unit.proofs.Accounts.{callsOf, life-made, life-account, life-lent}
 use Rattle.unit.proofs.Lives.{lifeOf, life-lived, life-account-is}
-use Rattle.session.specs.Session.{unit, session, sessionCalls, figuresIn, figuresOf}
+use Rattle.session.specs.Session.{unit, session, figuresIn, figuresOf}
 use Rattle.session.specs.Held.{Held}
-use Rattle.session.proofs.Fed.{fed-lent, fed-orderly, fed-made}
+use Rattle.session.proofs.Fed.{sessionCalls, fed-lent, fed-orderly, fed-made}
 
 -- no replica is faulty
-abbrev none : ℕ → Bool
+abbrev pub none : ℕ → Bool
 none i = false
 
 -- a replica is made only with a δ within its limit
@@ -79,15 +79,22 @@ session-reaches delta number place l small held =
     ∙ run-reaches delta number place small (callsOf (l .events)) (life-made u number l (held .lived)) (life-lent u number l (held .lived))
     (subst (Orderly u (session place)) same (held .orderly))
 
--- and there are such replicas, of each number, for each session
+-- ── there are such replicas ──
+
+-- every run of the rules that is orderly is one
+pub run-held : (delta number place : ℕ) (calls : List Call) → make (unit delta) number ≡ given (newState (unit delta) number) → Lent calls
+    → Orderly (unit delta) (session place) (account (unit delta) number calls) → Held delta number place (lifeOf (unit delta) number calls)
+run-held delta number place calls made lent orderly =
+    let u = unit delta in
+    let bytes = all-lent calls lent in
+    record {
+      lived = life-lived u number calls made bytes;
+      orderly = subst (Orderly u (session place)) (sym (life-account-is u number calls made bytes)) orderly;
+    }
+
+-- of each number, for each session
 pub fed-held : (delta number place : ℕ) → delta ≤ maxDelta → 1 ≤ number → number ≤ 3 → place < 256
     → Held delta number place (lifeOf (unit delta) number (sessionCalls delta place))
 fed-held delta number place short low high small =
-    let u = unit delta in
-    let calls = sessionCalls delta place in
-    let made = fed-made delta number short low high in
-    let lent = all-lent calls (fed-lent delta place small) in
-    record {
-      lived = life-lived u number calls made lent;
-      orderly = subst (Orderly u (session place)) (sym (life-account-is u number calls made lent)) (fed-orderly delta number place short small);
-    }
+    run-held delta number place (sessionCalls delta place) (fed-made delta number short low high) (fed-lent delta place small)
+    (fed-orderly delta number place short small)

@@ -1,11 +1,12 @@
--- Document 02, A1: "the storage card, fed each session and closed by a turn". Any replica of the code, any order, any local times.
+-- Document 02, A1: "the storage card, fed each session and closed by a turn". Any replica of the code, any order, any local times that
+-- keep the arrival rule.
 use Prim.Native.Nat.{ℕ}
 use Rattle.failstop.specs.Suppose.{Orderly}
 use Rattle.unit.specs.Life.{Life, Lived, accountIn}
 use Rattle.session.specs.Session.{unit, session}
 
--- the code made it, with any δ and any number that it accepts, so 1 to 3; the owner's requests that it accepted are the session's, in any order,
--- at local times that keep the arrival rule; and a step closed it
+-- the code made it, with any δ and any number that it accepts, so 1 to 3; the owner's requests that it accepted are the session's, the
+-- arrival rule was kept, and a step closed it
 pub record Held (delta number place : ℕ) (l : Life) : Type 0 where
   pub lived : Lived (unit delta) number l
   pub orderly : Orderly (unit delta) (session place) (accountIn (unit delta) l)

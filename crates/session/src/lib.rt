@@ -11,7 +11,7 @@ ghost use Rattle.record.specs.Record.{requestFields, writeRequest};
 ghost use Rattle.rules.specs.Run.{run};
 ghost use Rattle.rules.specs.Sample.{asked, wroteTo, deliverAt};
 ghost use Rattle.batch.specs.State.{stateOf};
-ghost use Rattle.session.specs.Session.{choices, chosen, figuresIn, figuresOf};
+ghost use Rattle.session.specs.Session.{choices, requestsFor, figuresIn, figuresOf};
 use limits::OUTPUT;
 use limits::RECORD;
 use record::LocalTime;
@@ -76,7 +76,7 @@ fn deliver_request(r: Replica, q: Request) -> Replica
 // What a process chose at a timestamp.
 fn deliver_choice(r: Replica, process: u8, t: u64, choice: u8) -> Replica
     requires { ⌜ (1 ≤ process) × (process ≤ 2) ⌝ }
-    ensures { λ s. ⌜ stateOf s ≡ run (stateOf r) (map (deliverAt 0) (chosen process t choice)) .state ⌝ }
+    ensures { λ s. ⌜ stateOf s ≡ run (stateOf r) (map (deliverAt 0) (requestsFor process t choice)) .state ⌝ }
 {
     match choice {
         1 => deliver_request(r, read_at(process, t)),

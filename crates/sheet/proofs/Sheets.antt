@@ -8,7 +8,7 @@ use lib.ListN.{length, drop, getD}
 use Rattle.rules.specs.Batch.{verdictOf}
 use Rattle.rules.specs.Machine.{react, reactAll, machine}
 use Rattle.text.specs.Text.{decimalIn, decimal, line, joined}
-use Rattle.text.specs.Page.{Page, page, put}
+use Rattle.text.specs.Page.{Page, page, putText}
 use Rattle.text.proofs.Ascii.{ascii}
 use Rattle.text.proofs.Put.{put-put, put-nothing, put-room}
 use Rattle.session.specs.Session.{choices, countUp, figuresOf}
@@ -36,11 +36,11 @@ choice-small place (suc (suc (suc zero))) = omega arith
 choice-small place (suc (suc (suc (suc i)))) = omega arith
 
 pub put-session : (p : Page) {q r : Page} (place : ℕ) {word : List ℕ} {failed value writes : ℕ} → word ≡ digitsWord place
-    → q ≡ put p (decimal place) → r ≡ put q (line word (failed ∷ value ∷ writes ∷ []))
-    → failed ≡ figuresOf place .failed → value ≡ figuresOf place .value → writes ≡ figuresOf place .writes → r ≡ put p (sessionLine place)
+    → q ≡ putText p (decimal place) → r ≡ putText q (line word (failed ∷ value ∷ writes ∷ []))
+    → failed ≡ figuresOf place .failed → value ≡ figuresOf place .value → writes ≡ figuresOf place .writes → r ≡ putText p (sessionLine place)
 put-session p place {word} {failed} {value} {writes} w first second f v n =
     let figures = line word (failed ∷ value ∷ writes ∷ []) in
-    second ∙ (ap (λ x. put x figures) first ∙ (put-put p (decimal place) figures ∙ rw (w, f, v, n)))
+    second ∙ (ap (λ x. putText x figures) first ∙ (put-put p (decimal place) figures ∙ rw (w, f, v, n)))
 
 -- ── all lines ──
 
@@ -52,16 +52,16 @@ pub lines-all : linesFrom 0 ≡ sheet
 unfolding sheet
 lines-all = refl
 
-pub put-next : (p : Page) {q : Page} (place : ℕ) → place < 256 → q ≡ put p (sessionLine place) → put q (linesFrom (place + 1)) ≡ put p (linesFrom place)
+pub put-next : (p : Page) {q : Page} (place : ℕ) → place < 256 → q ≡ putText p (sessionLine place) → putText q (linesFrom (place + 1)) ≡ putText p (linesFrom place)
 put-next p place small e =
     let left : 256 - place ≡ suc (256 - (place + 1)) = omega arith in
-    ap (λ x. put x (linesFrom (place + 1))) e ∙ (put-put p (sessionLine place) (linesFrom (place + 1)) ∙ rw left)
+    ap (λ x. putText x (linesFrom (place + 1))) e ∙ (put-put p (sessionLine place) (linesFrom (place + 1)) ∙ rw left)
 
-pub put-end : (p : Page) (place : ℕ) → place ≡ 256 → put p (linesFrom place) ≡ p
+pub put-end : (p : Page) (place : ℕ) → place ≡ 256 → putText p (linesFrom place) ≡ p
 put-end p place e = rw e (put-nothing p)
 
 -- where there is room the sheet stands at the start
-pub put-sheet : (destination : List ℕ) → length sheet ≤ length destination → put (page destination 0) sheet .bytes ≡ sheet ++ drop (length sheet) destination
+pub put-sheet : (destination : List ℕ) → length sheet ≤ length destination → putText (page destination 0) sheet .bytes ≡ sheet ++ drop (length sheet) destination
 put-sheet destination room =
     let all = ap (λ (p : Page). p .bytes) (put-room (page destination 0) sheet (omega (arith, room))) in
     rw (zero-add (length sheet)) at all

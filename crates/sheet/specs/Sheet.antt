@@ -5,7 +5,7 @@ use lib.Dec.{leb}
 use lib.ListN.{length, drop}
 use Rattle.question.specs.Question.{_else_, Answer, given, ask}
 use Rattle.text.specs.Text.{decimal, line, joined}
-use Rattle.session.specs.Session.{choices, places, figuresOf}
+use Rattle.session.specs.Session.{choices, allPlaces, figuresOf}
 
 -- a space and the four digits of a place
 abbrev pub digitsWord : ℕ → List ℕ
@@ -19,8 +19,12 @@ sessionLine place =
 
 -- all 256, from 0 up
 unfoldable pub sheet : List ℕ
-sheet = joined (map sessionLine places)
+sheet = joined (map sessionLine allPlaces)
 
 -- the sheet written to the start of a destination; 15 where it does not fit
 abbrev pub writeSheet : List ℕ → Answer (List ℕ)
 writeSheet destination = ask ((leb (length sheet) (length destination) else 15) ∷ []) (given (sheet ++ drop (length sheet) destination))
+
+-- the numbers that it may be refused with
+abbrev pub sheetNumbers : List ℕ
+sheetNumbers = 15 ∷ []

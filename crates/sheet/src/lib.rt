@@ -1,7 +1,7 @@
 // The drill sheet of document 02's A1: a line for each small session (crates/session).
 ghost use mathlib.Core.Path.{_≡_};
 ghost use Rattle.question.specs.Question.{after, verdict, outcome};
-ghost use Rattle.text.specs.Page.{page, put};
+ghost use Rattle.text.specs.Page.{page, putText};
 ghost use Rattle.sheet.specs.Sheet.{digitsWord, sessionLine, sheet, writeSheet};
 use question::Outcome;
 
@@ -9,7 +9,7 @@ use question::Outcome;
 pub const SHEET: usize = 3730;
 
 // A space and the digits of a place.
-fn digits_of(place: u8) -> [u8; 5]
+fn digits_word(place: u8) -> [u8; 5]
     ensures { λ w. ⌜ w ≡ digitsWord place ⌝ }
 {
     let c = session::choices(place);
@@ -18,9 +18,9 @@ fn digits_of(place: u8) -> [u8; 5]
 
 // The line of a session.
 fn put_session(place: u8, text: &mut [u8], used: usize) -> usize
-    ensures { λ n. ⌜ page (now (text .exit)) n ≡ put (page (now (text .entry)) used) (sessionLine place) ⌝ }
+    ensures { λ n. ⌜ page (now (text .exit)) n ≡ putText (page (now (text .entry)) used) (sessionLine place) ⌝ }
 {
-    let word = digits_of(place);
+    let word = digits_word(place);
     let f = session::session_figures(place);
     let numbers = [f.failed as u64, f.value as u64, f.writes];
     let at = text::put_decimal(place as u64, text, used);
@@ -29,7 +29,7 @@ fn put_session(place: u8, text: &mut [u8], used: usize) -> usize
 
 // All lines, from the start of the text on.
 fn put_sessions(text: &mut [u8]) -> usize
-    ensures { λ n. ⌜ page (now (text .exit)) n ≡ put (page (now (text .entry)) 0) sheet ⌝ }
+    ensures { λ n. ⌜ page (now (text .exit)) n ≡ putText (page (now (text .entry)) 0) sheet ⌝ }
 {
     let mut used: usize = 0;
     let mut place: usize = 0;

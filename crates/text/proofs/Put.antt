@@ -10,12 +10,12 @@ use native.Mathlib.Nat.{add-zero, sub-zero}
 use native.Mathlib.Omega.{arith}
 use borrow.Author.Tests.{leb-true, leb-false}
 use borrow.Rule.Slice.PartMut.{putMid}
-use Rattle.text.specs.Page.{Page, page, written, put}
+use Rattle.text.specs.Page.{Page, page, withText, putText}
 
 -- ── a text that fits ──
 
-written-nothing : (p : Page) → written p [] ≡ p
-written-nothing p = rw (add-zero (p .used), take-append-drop (p .used) (p .bytes))
+with-nothing : (p : Page) → withText p [] ≡ p
+with-nothing p = rw (add-zero (p .used), take-append-drop (p .used) (p .bytes))
 
 module _ (p : Page) (first : List ℕ) (fits : p .used + length first ≤ length (p .bytes)) where
   abbrev start : List ℕ
@@ -27,26 +27,26 @@ module _ (p : Page) (first : List ℕ) (fits : p .used + length first ≤ length
   length-start : length start ≡ end
   length-start = rw (length-append, length-take-le (p .used) (p .bytes) (omega arith))
 
-  split : written p first .bytes ≡ start ++ drop end (p .bytes)
+  split : withText p first .bytes ≡ start ++ drop end (p .bytes)
   split = sym (append-assoc (take (p .used) (p .bytes)) first (drop end (p .bytes)))
 
-  length-written : length (written p first .bytes) ≡ length (p .bytes)
-  length-written =
+  length-with : length (withText p first .bytes) ≡ length (p .bytes)
+  length-with =
       ap length split ∙ (length-append start (drop end (p .bytes)) ∙ omega (arith, length-start, length-drop end (p .bytes)))
 
-  take-written : take end (written p first .bytes) ≡ start
-  take-written = rw split (take-at start _ end length-start)
+  take-with : take end (withText p first .bytes) ≡ start
+  take-with = rw split (take-at start _ end length-start)
 
-  drop-written : (more : ℕ) → drop (end + more) (written p first .bytes) ≡ drop (end + more) (p .bytes)
-  drop-written more =
-      rw (← drop-drop more end (written p first .bytes), ← drop-drop more end (p .bytes), split, drop-at start (drop end (p .bytes)) end length-start)
+  drop-with : (more : ℕ) → drop (end + more) (withText p first .bytes) ≡ drop (end + more) (p .bytes)
+  drop-with more =
+      rw (← drop-drop more end (withText p first .bytes), ← drop-drop more end (p .bytes), split, drop-at start (drop end (p .bytes)) end length-start)
 
   -- a second one behind it: both together
-  written-twice : (second : List ℕ) → written (written p first) second ≡ written p (first ++ second)
-  written-twice second =
+  with-twice : (second : List ℕ) → withText (withText p first) second ≡ withText p (first ++ second)
+  with-twice second =
       let long = length-append first second in
       let sum : p .used + length (first ++ second) ≡ end + length second = omega arith in
-      rw (sum, take-written, drop-written (length second), append-assoc (take (p .used) (p .bytes)) first (second ++ drop (end + length second) (p .bytes)), append-assoc first second (drop (end + length second) (p .bytes)))
+      rw (sum, take-with, drop-with (length second), append-assoc (take (p .used) (p .bytes)) first (second ++ drop (end + length second) (p .bytes)), append-assoc first second (drop (end + length second) (p .bytes)))
 
 -- ── what is cut off ──
 
@@ -70,34 +70,34 @@ take-min n a = cut (leb (length a) n) refl where
 
 -- ── any text ──
 
-pub put-nothing : (p : Page) → put p [] ≡ p
-unfolding put
-put-nothing p = rw (take-nil (length (p .bytes) - p .used)) (written-nothing p)
+pub put-nothing : (p : Page) → putText p [] ≡ p
+unfolding putText
+put-nothing p = rw (take-nil (length (p .bytes) - p .used)) (with-nothing p)
 
-pub put-room : (p : Page) (text : List ℕ) → p .used + length text ≤ length (p .bytes) → put p text ≡ written p text
-unfolding put
+pub put-room : (p : Page) (text : List ℕ) → p .used + length text ≤ length (p .bytes) → putText p text ≡ withText p text
+unfolding putText
 put-room p text h = rw (take-all (length (p .bytes) - p .used) text (omega arith))
 
 -- where nothing is free, nothing changes
-pub put-full : (p : Page) (text : List ℕ) → length (p .bytes) ≤ p .used → put p text ≡ p
-unfolding put
+pub put-full : (p : Page) (text : List ℕ) → length (p .bytes) ≤ p .used → putText p text ≡ p
+unfolding putText
 put-full p text h =
     let none : length (p .bytes) - p .used ≡ 0 = omega arith in
-    rw none (written-nothing p)
+    rw none (with-nothing p)
 
-put-both : (p : Page) (a b : List ℕ) → p .used ≤ length (p .bytes) → put (put p a) b ≡ put p (a ++ b)
-unfolding put
+put-both : (p : Page) (a b : List ℕ) → p .used ≤ length (p .bytes) → putText (putText p a) b ≡ putText p (a ++ b)
+unfolding putText
 put-both p a b h =
     let free = length (p .bytes) - p .used in
     let cut = length-take free a in
     let fits : p .used + length (take free a) ≤ length (p .bytes) = omega arith in
-    let left : length (written p (take free a) .bytes) - (p .used + length (take free a)) ≡ free - length a =
-    omega (arith, length-written p (take free a) fits) in
-    rw (left, take-append free a b) (written-twice p (take free a) fits (take (free - length a) b))
+    let left : length (withText p (take free a) .bytes) - (p .used + length (take free a)) ≡ free - length a =
+    omega (arith, length-with p (take free a) fits) in
+    rw (left, take-append free a b) (with-twice p (take free a) fits (take (free - length a) b))
 
-pub put-put : (p : Page) (a b : List ℕ) → put (put p a) b ≡ put p (a ++ b)
+pub put-put : (p : Page) (a b : List ℕ) → putText (putText p a) b ≡ putText p (a ++ b)
 put-put p a b = both (leb (p .used) (length (p .bytes))) refl where
-  both : (t : Bool) → leb (p .used) (length (p .bytes)) ≡ t → put (put p a) b ≡ put p (a ++ b)
+  both : (t : Bool) → leb (p .used) (length (p .bytes)) ≡ t → putText (putText p a) b ≡ putText p (a ++ b)
   both true e = put-both p a b (leb-true (p .used) (length (p .bytes)) e)
   both false e =
       let h = leb-false (p .used) (length (p .bytes)) e in
@@ -107,8 +107,8 @@ put-put p a b = both (leb (p .used) (length (p .bytes))) refl where
 pub put-part : (text : List ℕ) (used : ℕ) (word part last : List ℕ) (count : ℕ) → used ≤ length text →
     count ≡ min (length word) (length text - used) → part ≡ take count word →
     last ≡ take (length part) part ++ drop (length part) (take (length text - used) (drop used text)) →
-    page (putMid used (length text - used) text last) (used + count) ≡ put (page text used) word
-unfolding put
+    page (putMid used (length text - used) text last) (used + count) ≡ putText (page text used) word
+unfolding putText
 put-part text used word part last count h same first e =
     let free = length text - used in
     let rest : take free (drop used text) ≡ drop used text = take-all free (drop used text) (rw length-drop (omega arith)) in

@@ -12,11 +12,11 @@ abbrev pub page : List ℕ → ℕ → Page
 page bytes used = record { bytes = bytes; used = used }
 
 -- a text that fits, behind what is used
-abbrev pub written : Page → List ℕ → Page
-written p text =
+abbrev pub withText : Page → List ℕ → Page
+withText p text =
     let end = p .used + length text in
     page (take (p .used) (p .bytes) ++ (text ++ drop end (p .bytes))) end
 
 -- a text put behind what is used; what does not fit is cut off
-unfoldable pub put : Page → List ℕ → Page
-put p text = written p (take (length (p .bytes) - p .used) text)
+unfoldable pub putText : Page → List ℕ → Page
+putText p text = withText p (take (length (p .bytes) - p .used) text)

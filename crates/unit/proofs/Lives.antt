@@ -18,6 +18,7 @@ use Rattle.rules.specs.declared.Settings.{Settings}
 use Rattle.laws.proofs.Calls.{LentTo, AllLent}
 use Rattle.failstop.specs.Suppose.{Correct, Supposed}
 use Rattle.failstop.specs.Runs as rules
+use Rattle.failstop.proofs.Copies.{all-lent}
 use Rattle.batch.specs.State.{free, stateOf}
 use Rattle.batch.specs.declared.state.Replica.{Replica}
 use Rattle.delivery.specs.Made.{newReplica}
@@ -179,8 +180,7 @@ livesOf u calls i = lifeOf u i (calls i)
 -- a unit of the rules that meets what is supposed is one of the code
 module _ (u : Settings) (faulty : ℕ → Bool) (calls : ℕ → List Call) (ran : rules.Ran u faulty calls) where
   lent-all : (i : ℕ) → Correct u faulty i → AllLent (calls i)
-  lent-all i ok (delivery bytes now) j = ran .lent i ok bytes now j
-  lent-all i ok (turn now output) j = tt
+  lent-all i ok = all-lent (calls i) (ran .lent i ok)
 
   pub lives-same : (i : ℕ) → Correct u faulty i → rules.accountOf u calls i ≡ accounts u (livesOf u calls) i
   lives-same i ok = sym (life-account-is u i (calls i) (ran .made i ok) (lent-all i ok))

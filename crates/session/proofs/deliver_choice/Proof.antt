@@ -25,7 +25,7 @@ write-at-requires c κs = search needs
 deliver-request-requires-2 : tie.Need-deliver-request-requires-2
 deliver-request-requires-2 c κs =
     let a = c .before .before in
-    subst Writes (sym (c .write-at .ensures)) (write-written (a .args .process) (a .args .t) (a .pre .0) (a .pre .1) 1)
+    subst Writes (sym (c .write-at .ensures)) (write-written (a .args .process) (a .args .t) (a .pre .0) (a .pre .1) _)
 
 write-at-requires-2 : tie.Need-write-at-requires-2
 write-at-requires-2 c κs = search needs
@@ -33,7 +33,7 @@ write-at-requires-2 c κs = search needs
 deliver-request-requires-3 : tie.Need-deliver-request-requires-3
 deliver-request-requires-3 c κs =
     let a = c .before .before in
-    subst Writes (sym (c .write-at2 .ensures)) (write-written (a .args .process) (a .args .t) (a .pre .0) (a .pre .1) 2)
+    subst Writes (sym (c .write-at2 .ensures)) (write-written (a .args .process) (a .args .t) (a .pre .0) (a .pre .1) _)
 
 -- the calls of one request
 delivered : (c : tie.Start) {q r : Request} → q ≡ r → run (stateOf (c .args .r)) (deliverAt 0 q ∷ []) .state ≡ run (stateOf (c .args .r)) (deliverAt 0 r ∷ []) .state

@@ -57,15 +57,15 @@ returns c =
     let second = third .before in
     let first = second .before in
     let made = first .before .before in
-    let chosen = made .before .choices .ensures in
+    let digits = made .before .choices .ensures in
     let place = made .before .before .args .place in
     let small : place < 256 = omega (arith, made .before .before .fits .place) in
     c .figures-in .ensures ∙ brought place small
     (made .make .ensures .1 .0)
-    (rw chosen at (first .deliver-choice .ensures))
-    (rw chosen at (second .deliver-choice2 .ensures))
-    (rw chosen at (third .deliver-choice3 .ensures))
-    (rw chosen at (fourth .deliver-choice4 .ensures))
+    (rw digits at (first .deliver-choice .ensures))
+    (rw digits at (second .deliver-choice2 .ensures))
+    (rw digits at (third .deliver-choice3 .ensures))
+    (rw digits at (fourth .deliver-choice4 .ensures))
     (closed .step .ensures .1 .0)
 
 pub session-figures-spec : {M : Type 1} → statement M

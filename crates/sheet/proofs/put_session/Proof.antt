@@ -8,8 +8,8 @@ use borrow.Author.Needs.{needs}
 use Rattle.sheet.proofs.put_session.Statement.{statement}
 use Rattle.sheet.proofs.put_session.Tie as tie
 
-digits-of-requires : tie.Need-digits-of-requires
-digits-of-requires c κs = search needs
+digits-word-requires : tie.Need-digits-word-requires
+digits-word-requires c κs = search needs
 
 session-figures-requires : tie.Need-session-figures-requires
 session-figures-requires c κs = search needs
@@ -43,7 +43,7 @@ returns c =
     let worded = figured .before in
     let start = worded .before .before in
     let shown = figured .session-figures .ensures in
-    put-session (page (start .args .text .now) (start .args .used)) (start .args .place) (worded .digits-of .ensures)
+    put-session (page (start .args .text .now) (start .args .used)) (start .args .place) (worded .digits-word .ensures)
     (numbered .put-decimal .ensures) (lined .put-line .ensures)
     (omega (arith, ap (λ (f : Figures). f .failed) shown))
     (omega (arith, ap (λ (f : Figures). f .value) shown))
@@ -53,7 +53,7 @@ pub put-session-spec : {M : Type 1} → statement M
 put-session-spec =
     tie.close
     (tie.spec
-    digits-of-requires
+    digits-word-requires
     session-figures-requires
     cast-put-decimal
     cast-t10

@@ -3,7 +3,7 @@ use Prim.Native.Nat.{_-_, _≤_}
 use mathlib.Core.Path.{_≡_, refl, sym, ap, _∙_}
 use lib.ListN.{length}
 use native.Mathlib.Omega.{arith}
-use Rattle.text.specs.Page.{page, put}
+use Rattle.text.specs.Page.{page, putText}
 use Rattle.sheet.specs.Sheet.{sheet}
 use Rattle.sheet.proofs.Sheets.{linesFrom, lines-all, put-next, put-end}
 use borrow.Author.Needs.{needs}
@@ -12,13 +12,13 @@ use Rattle.sheet.proofs.put_sessions.Tie as tie
 
 abbrev Inv-loop : tie.InvT-loop
 Inv-loop text₀ used₀ place₀ text used place =
-    (place ≤ 256) × (length text ≡ length text₀) × (put (page text used) (linesFrom place) ≡ put (page text₀ 0) sheet)
+    (place ≤ 256) × (length text ≡ length text₀) × (putText (page text used) (linesFrom place) ≡ putText (page text₀ 0) sheet)
 
 abbrev μ-loop : tie.MeasureT-loop
 μ-loop text₀ used₀ place₀ text used place = 256 - place
 
 loop-holds : tie.Need-loop-holds Inv-loop μ-loop
-loop-holds c = (omega arith, refl, ap (put (page (c .before .args .text .now) 0)) lines-all)
+loop-holds c = (omega arith, refl, ap (putText (page (c .before .args .text .now) 0)) lines-all)
 
 cast-put-session : tie.Need-cast-put-session Inv-loop μ-loop
 cast-put-session c = search needs

@@ -4,7 +4,7 @@ use mathlib.Core.Path.{_≡_, ap, _∙_}
 use lib.ListN.{take}
 use native.Mathlib.Nat.{sub-zero}
 use Rattle.text.specs.Text.{decimal}
-use Rattle.text.specs.Page.{page, put}
+use Rattle.text.specs.Page.{page, putText}
 use Rattle.text.proofs.Decimal.{fewest-decimal}
 use borrow.Author.Needs.{needs}
 use Rattle.text.proofs.put_decimal.Statement.{statement}
@@ -38,7 +38,7 @@ returns c =
     let same = fewest-decimal (a .n) count (start .fits .n .fits) (counted .decimal .ensures .1 .0) in
     let digits : take (count - 0) (counted .decimal .last .1 .0) ≡ decimal (a .n) =
     rw (sub-zero count) (counted .decimal .ensures .1 .1 ∙ same) in
-    done .put-word .ensures ∙ ap (λ t. put (page (a .text .now) (a .used)) t) digits
+    done .put-word .ensures ∙ ap (λ t. putText (page (a .text .now) (a .used)) t) digits
 
 pub put-decimal-spec : {M : Type 1} → statement M
 put-decimal-spec =

@@ -7,7 +7,7 @@ use lib.Seq.{drop-cons}
 use native.Mathlib.Numerals.{add-one}
 use native.Mathlib.Omega.{arith}
 use Rattle.text.specs.Text.{decimal, spaced, line}
-use Rattle.text.specs.Page.{page, put}
+use Rattle.text.specs.Page.{page, putText}
 use Rattle.text.proofs.Put.{put-nothing, put-put}
 use borrow.Author.Needs.{needs}
 use Rattle.text.proofs.put_line.Statement.{statement}
@@ -16,7 +16,7 @@ use Rattle.text.proofs.put_line.Tie as tie
 abbrev Inv-loop : tie.InvT-loop
 Inv-loop word numbers text₀ used next₀ i₀ t7 text next i =
     (length text ≡ length text₀)
-    × (put (page text next) (spaced (drop i numbers)) ≡ put (page text₀ next₀) (spaced numbers))
+    × (putText (page text next) (spaced (drop i numbers)) ≡ putText (page text₀ next₀) (spaced numbers))
 
 abbrev μ-loop : tie.MeasureT-loop
 μ-loop word numbers text₀ used next₀ i₀ t7 text next i = length numbers - i
@@ -76,10 +76,10 @@ returns c =
     let word = a .word .now in
     let numbers = a .numbers .now in
     let none : drop (l .loop .i) numbers ≡ [] = drop-of-length-le numbers {i = l .loop .i} (omega arith) in
-    let all : here ≡ put (put start word) (spaced numbers) =
+    let all : here ≡ putText (putText start word) (spaced numbers) =
     sym (put-nothing here) ∙ (rw (none, first .put-word .ensures) at (l .loop .inv .1)) in
-    let ended : put here (10 ∷ []) ≡ put start (line word numbers) =
-    rw (all, put-put (put start word) (spaced numbers) (10 ∷ [])) (put-put start word (spaced numbers ++ (10 ∷ []))) in
+    let ended : putText here (10 ∷ []) ≡ putText start (line word numbers) =
+    rw (all, put-put (putText start word) (spaced numbers) (10 ∷ [])) (put-put start word (spaced numbers ++ (10 ∷ []))) in
     last .put-word2 .ensures ∙ ended
 
 pub put-line-spec : {M : Type 1} → statement M

@@ -6,7 +6,7 @@ use lib.ListN.{length, drop, length-drop}
 use native.Mathlib.Nat.{sub-zero}
 use native.Mathlib.Omega.{arith}
 use Rattle.text.specs.Text.{joined}
-use Rattle.text.specs.Page.{page, put}
+use Rattle.text.specs.Page.{page, putText}
 use Rattle.text.proofs.Put.{put-nothing}
 use Rattle.rules.specs.Run.{messagesIn}
 use Rattle.playback.specs.Lines.{messageLine}
@@ -20,8 +20,8 @@ Inv-loop k groups count sent text₀ used next₀ at₀ i₀ text next at i =
     (i ≤ count)
     × (at ≤ length sent)
     × (length text ≡ length text₀)
-    × (put (page text next) (joined (map messageLine (messagesIn k groups (count - i) (drop at sent))))
-    ≡ put (page text₀ used) (joined (map messageLine (messagesIn k groups count sent))))
+    × (putText (page text next) (joined (map messageLine (messagesIn k groups (count - i) (drop at sent))))
+    ≡ putText (page text₀ used) (joined (map messageLine (messagesIn k groups count sent))))
 
 abbrev μ-loop : tie.MeasureT-loop
 μ-loop k groups count sent text₀ used next₀ at₀ i₀ text next at i = count - i
