@@ -10,8 +10,9 @@ pub(crate) const STDERR: i32 = 2;
 // The bytes of the text that is collected.
 pub(crate) const TEXT: usize = 65536;
 
-// The most that the lines of one record take: 132 bytes for each message that a step may send, as
-// the law `sent-fits` of the library `playback` says.
+// The most that the lines of one record take: 132 bytes for each message that a step may send. The
+// laws `sent-fits`, `refused-fits` and `cards-fit` of the library `playback` say that this is enough
+// for any record, and for all cards at the end.
 const LINES: usize = MAX_SENT * 132;
 
 // So much may be used before them.
