@@ -5,26 +5,11 @@ use mathlib.Core.List.{List, [], _∷_, _++_, map}
 use native.Mathlib.Nat.{zero-add}
 use native.Mathlib.Omega.{arith}
 use lib.ListN.{length, drop, getD}
-use Rattle.rules.specs.Batch.{verdictOf}
-use Rattle.rules.specs.Machine.{react, reactAll, machine}
-use Rattle.text.specs.Text.{decimalIn, decimal, line, joined}
+use Rattle.text.specs.Text.{decimal, line, joined}
 use Rattle.text.specs.Page.{Page, page, putText}
-use Rattle.text.proofs.Ascii.{ascii}
 use Rattle.text.proofs.Put.{put-put, put-nothing, put-room}
 use Rattle.session.specs.Session.{choices, countUp, figuresOf}
 use Rattle.sheet.specs.Sheet.{digitsWord, sessionLine, sheet}
-
--- ── how long it is, computed ──
-
-pub length-sheet : length sheet ≡ 3730
-unfolding verdictOf react reactAll machine decimalIn decimal line figuresOf sheet
-length-sheet = refl
-
--- ── document 02's two lines, and the first and the last ──
-
-pub document-lines : joined (map sessionLine (0 ∷ 128 ∷ 160 ∷ 255 ∷ [])) ≡ ascii "0 0000 0 0 0\n128 2000 1 0 0\n160 2200 0 1 1\n255 3333 0 2 2\n"
-unfolding verdictOf react reactAll machine decimalIn decimal line figuresOf
-document-lines = refl
 
 -- ── one line ──
 

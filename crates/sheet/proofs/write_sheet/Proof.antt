@@ -7,7 +7,8 @@ use borrow.Author.Tests.{lt-leb, le-leb}
 use Rattle.question.specs.Question.{ask}
 use Rattle.text.specs.Page.{Page}
 use Rattle.sheet.specs.Sheet.{sheet}
-use Rattle.sheet.proofs.Sheets.{length-sheet, put-sheet}
+use Rattle.sheet.proofs.Computed.{length-sheet}
+use Rattle.sheet.proofs.Sheets.{put-sheet}
 use borrow.Author.Needs.{needs}
 use Rattle.sheet.proofs.write_sheet.Statement.{statement}
 use Rattle.sheet.proofs.write_sheet.Tie as tie
