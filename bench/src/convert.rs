@@ -4,7 +4,8 @@ use crate::ffi;
 use crate::model::record::{MessageFields, RequestFields};
 use crate::model::replica::{Pending, Replica};
 use crate::model::vote::Query;
-use crate::model::{by_value, LocalTime, Settings, Timestamp, LIST_LIMIT, PENDING_LIMIT};
+use crate::model::{by_value, LocalTime, Settings, Timestamp};
+use crate::model::{LIST_LIMIT, PENDING_LIMIT, QUEUES, QUEUE_LIMIT};
 
 /// The by-value replica is compared with the C one, so it is as large.
 const _: () = assert!(size_of::<by_value::Replica>() == size_of::<ffi::Replica>());
@@ -113,33 +114,48 @@ pub fn to_settings(model: &Replica) -> ffi::Settings {
     }
 }
 
+/// The pending requests of each group, as many as there are places for.
+pub fn queues(replica: &ffi::Replica) -> [&[ffi::Pending]; QUEUES] {
+    std::array::from_fn(|place| {
+        let queue = &replica.pending[place * QUEUE_LIMIT..][..QUEUE_LIMIT];
+        &queue[..replica.counts[place].min(QUEUE_LIMIT)]
+    })
+}
+
 /// The C struct of a replica; the free places hold zeros.
 pub fn to_replica(model: &Replica) -> ffi::Replica {
     let mut pending = [ffi::Pending::default(); PENDING_LIMIT];
-    for (place, waiting) in pending.iter_mut().zip(&model.pending) {
-        *place = waiting.into();
+    for (places, queue) in pending.chunks_exact_mut(QUEUE_LIMIT).zip(&model.queues) {
+        for (place, waiting) in places.iter_mut().zip(queue) {
+            *place = waiting.into();
+        }
     }
     ffi::Replica {
         settings: to_settings(model),
         number: model.number,
         last: ffi::LocalTime(model.last.0),
         variables: model.variables,
-        queue: ffi::Queue { pending, count: model.pending.len() },
+        pending,
+        counts: std::array::from_fn(|place| model.queues[place].len()),
         writes: model.writes,
     }
 }
 
-/// The model's replica, if the struct is one that the calls can leave.
+/// The model's replica, if the struct is one that the calls can leave, but for
+/// counts past the places and requests in the queue of another group.
 pub fn from_replica(replica: &ffi::Replica) -> Option<Replica> {
     let u = replica.settings;
     let settings = Settings::new(u.k, u.groups).ok()?;
     let mut model = Replica::make(u.k, u.groups, u.owner, u.delta, replica.number).ok()?;
-    for waiting in replica.queue.pending.get(..replica.queue.count)? {
-        let request = settings.check_request(&waiting.request.into()).ok()?;
-        model.pending.push(Pending { request, arrival: LocalTime(waiting.arrival.0) });
+    for (queue, places) in model.queues.iter_mut().zip(queues(replica)) {
+        for waiting in places {
+            let request = settings.check_request(&waiting.request.into()).ok()?;
+            queue.push(Pending { request, arrival: LocalTime(waiting.arrival.0) });
+        }
     }
     model.last = LocalTime(replica.last.0);
     model.variables = replica.variables;
     model.writes = replica.writes;
-    model.pending.iter().all(|waiting| waiting.arrival <= model.last).then_some(model)
+    let in_time = model.pending().all(|waiting| waiting.arrival <= model.last);
+    in_time.then_some(model)
 }

@@ -43,14 +43,6 @@ pub struct Pending {
     pub arrival: LocalTime,
 }
 
-/// The first `count` are pending, the others are free.
-#[repr(C)]
-#[derive(Clone, Copy, Debug)]
-pub struct Queue {
-    pub pending: [Pending; 64],
-    pub count: usize,
-}
-
 /// What a unit is set up with.
 #[repr(C)]
 #[derive(Clone, Copy, Debug, PartialEq, Eq)]
@@ -68,7 +60,10 @@ pub struct Replica {
     pub number: u8,
     pub last: LocalTime,
     pub variables: [u32; 256],
-    pub queue: Queue,
+    /// Sixteen places for each group, group 1's first; of a group the first
+    /// `counts` are pending, the others free.
+    pub pending: [Pending; 64],
+    pub counts: [usize; 4],
     pub writes: u64,
 }
 

@@ -192,6 +192,8 @@ pub struct Traffic {
     dissent: u64,
     /// How often in a thousand a delivered request comes again.
     repeats: u64,
+    /// A group that makes most of the batches.
+    busy: Option<u8>,
 }
 
 impl Traffic {
@@ -204,7 +206,14 @@ impl Traffic {
             overtaking: random.pick(&[1, 1, 4, 8, 64]),
             dissent: random.pick(&[0, 0, 10, 60, 300]),
             repeats: random.pick(&[0, 0, 5, 50]),
+            busy: None,
         }
+    }
+
+    /// Traffic of which most comes from one group.
+    pub fn busy(cast: Cast, random: &mut Random) -> Traffic {
+        let busy = Some(cast.group(random));
+        Traffic { busy, ..Traffic::new(cast, random) }
     }
 
     /// Traffic in order and without dissent or repeats.
@@ -217,6 +226,7 @@ impl Traffic {
             overtaking: 1,
             dissent: 0,
             repeats: 0,
+            busy: None,
         }
     }
 
@@ -242,11 +252,20 @@ impl Traffic {
 
     fn make_batch(&mut self, random: &mut Random) {
         let timestamp = self.next_timestamp(random);
-        let (group, sort) = match self.cast.guest(random) {
-            Some(guest) => (guest, random.pick(&[Sort::Reads, Sort::Reads, Sort::Unanimous])),
-            None => (self.cast.owner, self.owner_sort(random)),
+        let group = self.next_group(random);
+        let sort = if group == self.cast.owner {
+            self.owner_sort(random)
+        } else {
+            random.pick(&[Sort::Reads, Sort::Reads, Sort::Unanimous])
         };
         self.waiting.extend(batch(self.cast, group, sort, timestamp, random));
+    }
+
+    fn next_group(&self, random: &mut Random) -> u8 {
+        match self.busy {
+            Some(busy) if random.chance(3, 4) => busy,
+            _ => self.cast.group(random),
+        }
     }
 
     fn owner_sort(&self, random: &mut Random) -> Sort {

@@ -1,30 +1,31 @@
 //! The model's replica by value gives the answers of its other replica.
 
 use bench::model::by_value;
-use bench::model::replica::Replica;
-use bench::model::{LocalTime, OUTPUT_SIZE};
+use bench::model::replica::{Pending, Replica};
+use bench::model::{LocalTime, Refusal, GROUP_LIMIT, OUTPUT_SIZE};
 use bench::random::Random;
 use bench::traffic::{Cast, Traffic};
 
 fn same(fixed: &by_value::Replica, model: &Replica) -> bool {
-    let waiting = model
-        .pending
-        .iter()
-        .map(|p| by_value::Pending { request: p.request.fields(), arrival: p.arrival });
     fixed.last == model.last
         && fixed.variables == model.variables
         && fixed.writes == model.writes
-        && fixed.pending[..fixed.count].iter().copied().eq(waiting)
+        && (1..=GROUP_LIMIT).all(|group| same_queue(fixed.queue(group), model.queue(group)))
 }
 
-/// Both replicas of the model get the same calls.
-fn run_both(random: &mut Random) {
+fn same_queue(fixed: &[by_value::Pending], model: &[Pending]) -> bool {
+    let plain = |p: &Pending| by_value::Pending { request: p.request.fields(), arrival: p.arrival };
+    fixed.iter().copied().eq(model.iter().map(plain))
+}
+
+/// Both replicas of the model get the same calls; how often a queue was full.
+fn run_both(random: &mut Random) -> usize {
     let Cast { k, groups, owner } = Cast::random(random);
     let delta = random.below(20);
     let mut model = Replica::make(k, groups, owner, delta, 1).expect("allowed");
     let mut fixed = by_value::Replica::make(k, groups, owner, delta, 1).expect("allowed");
     let mut traffic = Traffic::new(Cast { k, groups, owner }, random);
-    let mut at = 0;
+    let (mut at, mut full) = (0, 0);
     for _ in 0..100 {
         at += random.below(4);
         let time = LocalTime(if random.chance(1, 20) { random.below(at + 1) } else { at });
@@ -41,15 +42,16 @@ fn run_both(random: &mut Random) {
             let (next, found) = fixed.deliver(&bytes, time);
             fixed = next;
             assert_eq!(expected, found);
+            full += usize::from(found == Err(Refusal::PendingFull));
         }
         assert!(same(&fixed, &model));
     }
+    full
 }
 
 #[test]
 fn agrees_with_the_other_replica() {
     let mut random = Random::new(11);
-    for _ in 0..2_000 {
-        run_both(&mut random);
-    }
+    let full: usize = (0..2_000).map(|_| run_both(&mut random)).sum();
+    assert!(full > 1_000, "a queue was full {full} times");
 }

@@ -37,7 +37,7 @@ fn every_replica_reaches_them_in_every_order() {
                 for delta in [3, 1_000_000] {
                     let replica = fed(number, delta, &order, delta + 1);
                     assert_eq!(figures_of(&replica), figures(&choices), "{choices:?}: {order:?}");
-                    assert_eq!(replica.queue.count, 0);
+                    assert_eq!(replica.counts, [0; 4]);
                     fed_sessions += 1;
                 }
             }
@@ -52,6 +52,6 @@ fn every_replica_reaches_them_in_every_order() {
 fn a_step_too_early_leaves_one_pending() {
     let order = requests(&[0, 0, 0, 2]);
     let replica = fed(1, 5, &order, 5);
-    assert_eq!(replica.queue.count, 1);
+    assert_eq!(replica.counts, [1, 0, 0, 0]);
     assert_ne!(figures_of(&replica), figures(&[0, 0, 0, 2]));
 }

@@ -192,9 +192,11 @@ fn write_into(room: u8, write: impl Fn(&mut [u8]) -> Result<(), Refusal>) -> Str
     answer(write(&mut destination), |()| "done".into()) + &show_bytes(&destination)
 }
 
+/// Variables 0 and 4, the writes, the pending requests of each group and the last local time.
 fn figures(r: &Replica) -> String {
-    let (failed, four, pending) = (r.variables[0], r.variables[4], r.pending.len());
-    format!(" ; {failed} {four} {} {pending} {}", r.writes, r.last.0)
+    let (failed, four, writes, last) = (r.variables[0], r.variables[4], r.writes, r.last.0);
+    let [one, two, three, fourth] = r.queues.each_ref().map(Vec::len);
+    format!(" ; {failed} {four} {writes} {one} {two} {three} {fourth} {last}")
 }
 
 #[test]

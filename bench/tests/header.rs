@@ -1,7 +1,8 @@
-//! failstop.h is C, and its structs are as large as those of `ffi`.
+//! failstop.h is C, its structs are as large as those of `ffi`, and the replica's
+//! fields stand at the same places.
 
 use std::io::Write;
-use std::mem::size_of;
+use std::mem::{offset_of, size_of};
 use std::process::{Command, Stdio};
 
 use bench::ffi;
@@ -14,7 +15,6 @@ fn header_is_c_with_the_same_structs() {
         ("failstop_request", size_of::<ffi::Request>()),
         ("failstop_message", size_of::<ffi::Message>()),
         ("failstop_pending", size_of::<ffi::Pending>()),
-        ("failstop_queue", size_of::<ffi::Queue>()),
         ("failstop_settings", size_of::<ffi::Settings>()),
         ("failstop_replica", size_of::<ffi::Replica>()),
         ("failstop_query", size_of::<ffi::Query>()),
@@ -30,6 +30,23 @@ fn header_is_c_with_the_same_structs() {
         .map(|(name, size)| format!("_Static_assert(sizeof({name}) == {size}, \"{name}\");\n"))
         .collect();
     compile(&format!("#include \"failstop.h\"\n{asserts}"));
+}
+
+#[test]
+fn the_replicas_fields_stand_at_the_same_places() {
+    let places = [
+        ("settings", offset_of!(ffi::Replica, settings)),
+        ("number", offset_of!(ffi::Replica, number)),
+        ("last", offset_of!(ffi::Replica, last)),
+        ("variables", offset_of!(ffi::Replica, variables)),
+        ("pending", offset_of!(ffi::Replica, pending)),
+        ("counts", offset_of!(ffi::Replica, counts)),
+        ("writes", offset_of!(ffi::Replica, writes)),
+    ];
+    let asserts = places.map(|(name, place)| {
+        format!("_Static_assert(offsetof(failstop_replica, {name}) == {place}, \"{name}\");\n")
+    });
+    compile(&format!("#include \"failstop.h\"\n{}", asserts.concat()));
 }
 
 /// Checks a C file and writes nothing.

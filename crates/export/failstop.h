@@ -36,12 +36,6 @@ typedef struct {
     failstop_local_time arrival;
 } failstop_pending;
 
-/* The first `count` are pending, the others are free. */
-typedef struct {
-    failstop_pending pending[64];
-    size_t count;
-} failstop_queue;
-
 /* What a unit is set up with; `groups` is document 01's N. */
 typedef struct {
     uint8_t k;
@@ -56,7 +50,11 @@ typedef struct {
     uint8_t number;
     failstop_local_time last;
     uint32_t variables[256];
-    failstop_queue queue;
+    /* Sixteen places for each group, group 1's first. Of group g the first `counts[g - 1]` are pending, in order of
+       arrival, the others free. A count past sixteen means sixteen. A request is of the group in whose places it
+       stands; a reply to it goes to the group that it names. */
+    failstop_pending pending[64];
+    size_t counts[4];
     uint64_t writes;
 } failstop_replica;
 

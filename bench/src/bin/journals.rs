@@ -68,8 +68,8 @@ fn main() -> io::Result<()> {
         std::process::exit(64);
     };
     let folder = Path::new(&folder);
-    let refused = [refused_first(), refused_requests(), refused_calls(), refused_records()];
-    let others = [plain(), examples(), units(), runs(), ends(), random(), long()];
+    let refused = [refused_first(), refused_requests(), refused_times(), refused_records()];
+    let others = [plain(), queues(), examples(), units(), runs(), ends(), random(), long()];
     for (name, bytes) in [refused.concat(), others.concat()].concat() {
         fs::write(folder.join(name), bytes)?;
     }
@@ -144,17 +144,9 @@ fn refused_requests() -> Journals {
     ]
 }
 
-/// Times that are refused, and a delivery without room.
-fn refused_calls() -> Journals {
+/// Times that are refused.
+fn refused_times() -> Journals {
     let at = |time, stamp| delivery_entry(1, time, &read(1, 3, stamp));
-    let mut full = all(1, 100, &[read(1, 3, 51); 65]);
-    full.extend([step_entry(1, 106), at(107, 52)]);
-    // Without room, a request that is wrong gets 11 whatever its time; one that is right gets 12, 13
-    // or 14 by its time.
-    let mut ordered = all(1, 100, &[read(1, 3, 51); 64]);
-    let wrong = with(read(1, 3, 51), 23, 1);
-    ordered.extend([LAST_TIME + 1, 99, 100].map(|time| delivery_entry(1, time, &wrong)));
-    ordered.extend([LAST_TIME + 1, 99, 100].map(|time| at(time, 51)));
     // Past 2^62, delivery and turn; at 2^62 both are accepted, and the next turn is not ripe.
     let too_late = [
         at(LAST_TIME + 1, 51),
@@ -175,13 +167,70 @@ fn refused_calls() -> Journals {
         step_entry(2, 1),
         step_entry(1, 103),
     ];
+    vec![("no-12", unchanged(&too_late)), ("no-13", unchanged(&backwards))]
+}
+
+/// A read of variable 3 by the first program card of a group.
+fn read_of(group: u8, stamp: u64) -> Request {
+    request(READ, group, 1, 3, stamp, 0)
+}
+
+/// Deliveries without room: each group has a shelf of sixteen.
+fn queues() -> Journals {
+    let at = |time, stamp| delivery_entry(1, time, &read(1, 3, stamp));
+    let mut full = all(1, 100, &[read(1, 3, 51); 17]);
+    full.extend([step_entry(1, 106), at(107, 52)]);
+    // Without room, a request that is wrong gets 11 whatever its time; one that is right gets 12, 13
+    // or 14 by its time.
+    let mut ordered = all(1, 100, &[read(1, 3, 51); 16]);
+    let wrong = with(read(1, 3, 51), 23, 1);
+    ordered.extend([LAST_TIME + 1, 99, 100].map(|time| delivery_entry(1, time, &wrong)));
+    ordered.extend([LAST_TIME + 1, 99, 100].map(|time| at(time, 51)));
     vec![
-        ("no-12", unchanged(&too_late)),
-        ("no-13", unchanged(&backwards)),
-        // "Also run": the 64th delivery is accepted, the 65th not; a turn makes room again.
+        // "Also run": the 16th delivery is accepted, the 17th not; a turn makes room again.
         ("no-14", unchanged(&full)),
         ("no-14-in-order", unchanged(&ordered)),
+        ("no-14-busy-guest", unchanged(&busy_guest())),
+        ("no-14-four-groups", four_full_groups()),
+        ("no-14-freed-place", unchanged(&freed_place())),
     ]
+}
+
+/// A guest sends more than its shelf holds, before and after the owner's requests and after a turn
+/// that serves the owner alone, for the guest's came later. The owner is never turned away.
+fn busy_guest() -> Vec<Entry> {
+    let guests: Vec<Request> = (1..=17).map(|stamp| read_of(2, stamp)).collect();
+    let owners = [write(1, 3, 10, 7), write(2, 3, 10, 7), read(1, 3, 11)];
+    let mut list = all(1, 100, &owners);
+    list.extend(all(1, 103, &guests));
+    list.extend(all(1, 104, &[read(2, 3, 20), read_of(2, 20), read(1, 3, 21)]));
+    list.extend([step_entry(1, 106), delivery_entry(1, 106, &read_of(2, 20))]);
+    list.extend(all(1, 107, &[read(2, 3, 30), read_of(2, 20)]));
+    list
+}
+
+/// Sixteen requests of each of four groups are accepted, one of each at a time, and a 17th of each
+/// is not.
+fn four_full_groups() -> Vec<u8> {
+    let mut list = vec![setup_entry(0, 4, 3, 5)];
+    for stamp in 1..=17 {
+        list.extend(all(1, 100, &[4, 3, 2, 1].map(|group| read_of(group, stamp))));
+    }
+    list.push(step_entry(1, 106));
+    list.concat()
+}
+
+/// A turn handles one head, of two of the sixteen: two more are accepted, and a third is not. The
+/// other group's shelf, on which nothing was ripe, is as full as before.
+fn freed_place() -> Vec<Entry> {
+    let rest: Vec<Request> = (2..=15).map(|stamp| read(1, 3, stamp)).collect();
+    let guests: Vec<Request> = (1..=16).map(|stamp| read_of(2, stamp)).collect();
+    let mut list = all(1, 100, &[read(1, 3, 1), read(2, 3, 1)]);
+    list.extend([all(1, 102, &rest), all(1, 102, &guests)].concat());
+    list.extend(all(1, 103, &[read(1, 3, 20), read_of(2, 20)]));
+    list.push(step_entry(1, 106));
+    list.extend(all(1, 106, &[read(1, 3, 20), read_of(2, 20), read(1, 3, 21), read(1, 3, 22)]));
+    list
 }
 
 /// Records of the journal that are refused, all for one reason but for the last journal.
@@ -292,10 +341,14 @@ fn units() -> Journals {
         freeze.push(delivery_entry(5, 10, &request(WRITE, 2, process, 9, 10, value)));
     }
     freeze.push(step_entry(5, 11));
-    // 67 messages in one turn: 63 replies to a guest, then a freeze with four halts.
-    let mut most = vec![setup_entry(3, 2, 2, 0)];
-    most.extend((1..=63).map(|stamp| delivery_entry(1, 10, &read(1, 9, stamp))));
-    most.push(delivery_entry(1, 10, &request(WRITE, 2, 1, 9, 64, 5)));
+    // 67 messages in one turn: 48 replies to guests and 15 to the owner, then a freeze with four
+    // halts.
+    let mut most = vec![setup_entry(3, 4, 4, 0)];
+    for stamp in 1..=15 {
+        most.extend(all(1, 10, &[1, 2, 3, 4].map(|group| request(READ, group, 1, 9, stamp, 0))));
+    }
+    most.extend(all(1, 10, &[1, 2, 3].map(|group| request(READ, group, 1, 9, 16, 0))));
+    most.push(delivery_entry(1, 10, &request(WRITE, 4, 1, 9, 16, 5)));
     most.push(step_entry(1, 11));
     vec![
         ("seven-cards", seven.concat()),
@@ -312,8 +365,8 @@ fn runs() -> Journals {
         |variable, stamp, value| [1, 2].map(|process| write(process, variable, stamp, value));
     let guest = |process, variable, stamp| request(READ, 2, process, variable, stamp, 0);
     // Six unanimous writes, among them a value again, a 0 and a value that was there before, and a read
-    // of what each left. Card 1 gets them one after the other, with a turn for each; card 2 all at
-    // reading 0, the last first, with one turn.
+    // of what each left. Card 1 gets them one after the other, with a turn for each; card 2 three at a
+    // time, the first three at reading 0, the last first, with a turn for each three.
     let values = [(4, 7), (4, 7), (4, 0), (3, 5), (4, 9), (4, 7)];
     let mut writes = Vec::new();
     for (stamp, (variable, value)) in (10..).step_by(10).zip(values) {
@@ -324,9 +377,11 @@ fn runs() -> Journals {
         six.extend(all(1, time, requests));
         six.push(step_entry(1, time + 6));
     }
-    writes.reverse();
-    six.extend(all(2, 0, &writes.concat()));
-    six.push(step_entry(2, 6));
+    for (time, three) in (0..).step_by(6).zip(writes.chunks_mut(3)) {
+        three.reverse();
+        six.extend(all(2, time, &three.concat()));
+        six.push(step_entry(2, time + 6));
+    }
     // The first and the last variable that can be written, and their neighbours, which stay 0.
     let (last, first) = (both(255, 10, 7), both(1, 20, 8));
     let reads = [255, 254, 0, 1, 2].map(|variable| read(1, variable, 30));
@@ -413,10 +468,10 @@ fn long() -> Journals {
     let mut one = vec![setup_entry(0, 1, 1, 5)];
     one.extend((1..1600).map(|time| step_entry(1, time)));
     let mut two = vec![setup_entry(3, 4, 4, 5)];
-    for step in 0..60 {
+    for step in 0..120 {
         let time = 10 * step + 1;
-        two.extend((0..30).map(|i| {
-            delivery_entry(7, time, &request(READ, 4, 4, 255, u64::MAX - 2000 + 30 * step + i, 0))
+        two.extend((0..15).map(|i| {
+            delivery_entry(7, time, &request(READ, 4, 4, 255, u64::MAX - 2000 + 15 * step + i, 0))
         }));
         two.push(step_entry(7, time + 6));
     }

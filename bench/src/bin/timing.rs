@@ -17,7 +17,8 @@ use bench::model::record::{self, MessageFields, Operation, Request, HALT};
 use bench::model::replica::Replica;
 use bench::model::vote::{count_halts, vote, Query};
 use bench::model::{
-    by_value, LocalTime, Refusal, Timestamp, LIST_LIMIT, OUTPUT_SIZE, PENDING_LIMIT, RECORD_SIZE,
+    by_value, LocalTime, Refusal, Timestamp, GROUP_LIMIT, K_LIMIT, LIST_LIMIT, OUTPUT_SIZE,
+    QUEUE_LIMIT, RECORD_SIZE,
 };
 use bench::random::Random;
 use bench::traffic::{Cast, Traffic};
@@ -38,8 +39,10 @@ const GROUPS: u8 = 2;
 const OWNER: u8 = 1;
 const DELTA: u64 = 5;
 
-const SETTINGS: ffi::Settings =
-    ffi::Settings { k: K, groups: GROUPS, owner: OWNER, delta: DELTA };
+const SETTINGS: ffi::Settings = ffi::Settings { k: K, groups: GROUPS, owner: OWNER, delta: DELTA };
+/// Where all queues are wanted, and where a write is of the most processes.
+const ALL_GROUPS: ffi::Settings = ffi::Settings { groups: GROUP_LIMIT, ..SETTINGS };
+const ALL_PROCESSES: ffi::Settings = ffi::Settings { k: K_LIMIT, ..SETTINGS };
 /// What votes are on.
 const QUERY: Query = Query { group: OWNER, process: 1, variable: 4, timestamp: Timestamp(10) };
 
@@ -73,9 +76,9 @@ impl Table {
 
 impl fmt::Display for Table {
     fn fmt(&self, f: &mut fmt::Formatter<'_>) -> fmt::Result {
-        writeln!(f, "{:<38} {:>9} {:>9} {:>7}", "", "verified", "model", "ratio")?;
+        writeln!(f, "{:<50} {:>9} {:>9} {:>7}", "", "verified", "model", "ratio")?;
         for (what, verified, model) in &self.rows {
-            writeln!(f, "{what:<38} {verified:>9.1} {model:>9.1} {:>7.2}", verified / model)?;
+            writeln!(f, "{what:<50} {verified:>9.1} {model:>9.1} {:>7.2}", verified / model)?;
         }
         Ok(())
     }
@@ -165,20 +168,29 @@ fn write_messages(table: &mut Table, messages: &[MessageFields]) {
     table.note("write a message", verified, model);
 }
 
-fn new_model() -> Replica {
-    Replica::make(K, GROUPS, OWNER, DELTA, 1).expect("allowed settings")
+fn new_model(u: ffi::Settings) -> Replica {
+    Replica::make(u.k, u.groups, u.owner, u.delta, 1).expect("allowed settings")
 }
 
-fn new_by_value() -> by_value::Replica {
-    by_value::Replica::make(K, GROUPS, OWNER, DELTA, 1).expect("allowed settings")
+fn new_by_value(u: ffi::Settings) -> by_value::Replica {
+    by_value::Replica::make(u.k, u.groups, u.owner, u.delta, 1).expect("allowed settings")
+}
+
+/// Reads that fill the queues of the groups up to a last one, each a batch.
+fn reads_up_to(last: u8) -> Vec<Request> {
+    let mut reads = Vec::new();
+    for group in 1..=last {
+        let stamps = 0..QUEUE_LIMIT as u64;
+        reads.extend(stamps.map(|i| Request { group, ..request(1, i, Operation::Read) }));
+    }
+    reads
 }
 
 /// Fills a new replica, again and again.
 fn delivery(table: &mut Table) {
-    let bytes: Vec<_> =
-        (0..PENDING_LIMIT as u64).map(|i| request(1, i, Operation::Read).encode()).collect();
-    let rounds = CALLS / PENDING_LIMIT;
-    let calls = rounds * PENDING_LIMIT;
+    let bytes: Vec<_> = reads_up_to(GROUP_LIMIT).iter().map(Request::encode).collect();
+    let rounds = CALLS / bytes.len();
+    let calls = rounds * bytes.len();
     let verified = best(calls, || (0..rounds).for_each(|_| fill_verified(&bytes)));
     let by_reference = best(calls, || (0..rounds).for_each(|_| fill_model(&bytes)));
     let by_value = best(calls, || (0..rounds).for_each(|_| fill_by_value(&bytes)));
@@ -187,7 +199,7 @@ fn delivery(table: &mut Table) {
 }
 
 fn fill_verified(bytes: &[[u8; RECORD_SIZE]]) {
-    let mut replica = ffi::make(SETTINGS, 1).replica;
+    let mut replica = ffi::make(ALL_GROUPS, 1).replica;
     for request in bytes {
         let found = ffi::deliver(replica, black_box(request), ffi::LocalTime(100));
         replica = found.replica;
@@ -197,7 +209,7 @@ fn fill_verified(bytes: &[[u8; RECORD_SIZE]]) {
 }
 
 fn fill_model(bytes: &[[u8; RECORD_SIZE]]) {
-    let mut replica = new_model();
+    let mut replica = new_model(ALL_GROUPS);
     for request in bytes {
         see(&replica.deliver(black_box(request), LocalTime(100)));
     }
@@ -205,7 +217,7 @@ fn fill_model(bytes: &[[u8; RECORD_SIZE]]) {
 }
 
 fn fill_by_value(bytes: &[[u8; RECORD_SIZE]]) {
-    let mut replica = new_by_value();
+    let mut replica = new_by_value(ALL_GROUPS);
     for request in bytes {
         let (next, result) = replica.deliver(black_box(request), LocalTime(100));
         replica = next;
@@ -215,19 +227,23 @@ fn fill_by_value(bytes: &[[u8; RECORD_SIZE]]) {
 }
 
 fn steps(table: &mut Table) {
-    let unstable: Vec<Request> = (0..16).map(|i| request(1, i, Operation::Read)).collect();
+    let one_queue = reads_up_to(OWNER);
+    let all_queues = reads_up_to(GROUP_LIMIT);
     let one_batch: Vec<Request> = (0..16).map(|_| request(1, 10, Operation::Read)).collect();
-    let many: Vec<Request> = (0..64).map(|i| request(1, i, Operation::Read)).collect();
-    step(table, "step, nothing pending", &[], 106);
-    step(table, "step, 16 pending, none stable", &unstable, 105);
-    step(table, "step, one batch of 16 reads", &one_batch, 106);
-    step(table, "step, 64 batches of one read", &many, 106);
+    let writes: Vec<Request> =
+        (1..=K_LIMIT + 1).map(|process| request(process, 10, Operation::Write(7))).collect();
+    step(table, "step, nothing pending", SETTINGS, &[], 106);
+    step(table, "step, 16 pending, none stable", SETTINGS, &one_queue, 105);
+    step(table, "step, one batch of 16 reads", SETTINGS, &one_batch, 106);
+    step(table, "step, one group of 16 batches of one read", SETTINGS, &one_queue, 106);
+    step(table, "step, 64 batches of one read", ALL_GROUPS, &all_queues, 106);
+    step(table, "step, a batch of k + 1 unanimous writes", ALL_PROCESSES, &writes, 106);
 }
 
 /// A step of replicas that got the requests at 100.
-fn step(table: &mut Table, what: &str, requests: &[Request], at: u64) {
-    let mut model = new_model();
-    let mut fixed = new_by_value();
+fn step(table: &mut Table, what: &str, u: ffi::Settings, requests: &[Request], at: u64) {
+    let mut model = new_model(u);
+    let mut fixed = new_by_value(u);
     for request in requests {
         model.deliver(&request.encode(), LocalTime(100)).expect("an allowed delivery");
         fixed = fixed.deliver(&request.encode(), LocalTime(100)).0;
@@ -348,8 +364,9 @@ fn compare_texts(path: &Path) -> io::Result<()> {
     Ok(())
 }
 
-/// Each request goes to all replicas, one after the other, and every 32nd
-/// record is a step of one of them. The place is the local time.
+/// Each request goes to all replicas, one after the other, and every 12th
+/// record is a step of one of them, so that no queue is ever full. The place is
+/// the local time.
 fn write_journal(path: &Path) -> io::Result<()> {
     let mut random = Random::new(1);
     let mut traffic = Traffic::calm(Cast { k: K, groups: GROUPS, owner: OWNER }, 1);
@@ -358,10 +375,10 @@ fn write_journal(path: &Path) -> io::Result<()> {
     let mut file = BufWriter::new(File::create(path)?);
     file.write_all(&setup_entry(K, GROUPS, OWNER, DELTA))?;
     for place in 1..JOURNAL_RECORDS as u64 {
-        let delivery = if place % 32 == 0 { None } else { deliveries.next() };
+        let delivery = if place % 12 == 0 { None } else { deliveries.next() };
         let record = match delivery {
             Some((replica, request)) => delivery_entry(replica, place, &request),
-            None => step_entry(1 + (place / 32 % 3) as u8, place),
+            None => step_entry(1 + (place / 12 % 3) as u8, place),
         };
         file.write_all(&record)?;
     }
@@ -376,7 +393,7 @@ fn compare_journals(path: &Path) -> io::Result<()> {
     }
     let rate = |seconds: f64| JOURNAL_RECORDS as f64 / seconds / 1e6;
     println!(
-        "{:<38} {:>9.3} {:>9.3} {:>7.2}",
+        "{:<50} {:>9.3} {:>9.3} {:>7.2}",
         "journal, million records a second",
         rate(verified),
         rate(model),

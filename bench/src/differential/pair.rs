@@ -7,13 +7,13 @@ use super::lent::Lent;
 use super::records::some_request;
 use super::tally::{Call, Event, Tally};
 use super::{same, same_lists, Outcome};
-use crate::convert::to_settings;
+use crate::convert::{queues, to_settings};
 use crate::difference::Difference;
 use crate::ffi;
 use crate::model::record::{Request, RequestFields, READ, REPLY};
 use crate::model::replica::{Pending, Replica};
-use crate::model::{number_of, LocalTime, OUTPUT_SIZE, PENDING_LIMIT, RECORD_SIZE, STEP_MESSAGES};
-use crate::model::{Refusal, Timestamp, TIME_LIMIT};
+use crate::model::{number_of, LocalTime, Refusal, Timestamp, OUTPUT_SIZE, PENDING_LIMIT};
+use crate::model::{QUEUES, QUEUE_LIMIT, RECORD_SIZE, STEP_MESSAGES, TIME_LIMIT};
 use crate::random::Random;
 
 /// The arguments of making a replica.
@@ -52,6 +52,13 @@ impl Display for Action {
     }
 }
 
+/// The groups that there can be.
+const GROUPS: [u8; QUEUES] = [1, 2, 3, 4];
+
+/// The event of each group's refusal 14.
+const WITHOUT_ROOM: [Event; QUEUES] =
+    [Event::WithoutRoom1, Event::WithoutRoom2, Event::WithoutRoom3, Event::WithoutRoom4];
+
 /// Both replicas, and the calls that brought them here.
 pub struct Pair {
     pub model: Replica,
@@ -86,8 +93,9 @@ fn blank(replica: &ffi::Replica, input: impl Fn() -> String + Copy) -> Outcome {
     let figures = (replica.settings, replica.number, replica.last.0, replica.writes);
     same("blank", (zero, 0, 0, 0), figures, input)?;
     same_lists("blank variable", &[0; 256], &replica.variables, input)?;
-    same("blank count", 0, replica.queue.count, input)?;
-    same_lists("blank place", &[ffi::Pending::default(); 64], &replica.queue.pending, input)?;
+    same("blank counts", [0; QUEUES], replica.counts, input)?;
+    let places = [ffi::Pending::default(); PENDING_LIMIT];
+    same_lists("blank place", &places, &replica.pending, input)?;
     let request = RequestFields { kind: READ, group: 1, process: 1, ..RequestFields::default() };
     let delivered = ffi::deliver(*replica, &request.encode(), ffi::LocalTime(0));
     same("refusal of a blank replica", 2, delivered.refusal, input)?;
@@ -116,6 +124,8 @@ struct Past {
     /// The latest timestamp of each group that was accepted and handled.
     latest: [Option<Timestamp>; 5],
     handled: [Option<Timestamp>; 5],
+    /// Whether the queue of each group was full.
+    filled: [bool; 5],
 }
 
 impl Past {
@@ -134,11 +144,24 @@ impl Past {
         self.latest[group] = self.latest[group].max(timestamp);
     }
 
+    /// A group whose queue now holds so many; what was accepted behind a full
+    /// queue has the place of a handled request.
+    fn fill(&mut self, group: u8, length: usize, tally: &mut Tally) {
+        let filled = &mut self.filled[usize::from(group)];
+        if *filled {
+            tally.event(Event::FreedPlace);
+        }
+        if length == QUEUE_LIMIT {
+            tally.event(Event::FullQueue);
+            *filled = true;
+        }
+    }
+
     /// The batches before a step of which nothing is pending afterwards.
-    fn handle(&mut self, before: &[Pending], after: &[Pending]) {
+    fn handle(&mut self, before: &Replica, after: &Replica) {
         let batch = |p: &Pending| (p.request.group, p.request.timestamp);
-        let left: BTreeSet<_> = after.iter().map(batch).collect();
-        for (group, timestamp) in before.iter().map(batch).filter(|b| !left.contains(b)) {
+        let left: BTreeSet<_> = after.pending().map(batch).collect();
+        for (group, timestamp) in before.pending().map(batch).filter(|b| !left.contains(b)) {
             let handled = &mut self.handled[usize::from(group)];
             *handled = (*handled).max(Some(timestamp));
         }
@@ -154,17 +177,25 @@ impl Pair {
         self.other = found.replica;
         tally.answer(Call::Deliver, number_of(&expected));
         same("refusal", number_of(&expected), found.refusal, || self.input())?;
-        if expected.is_ok() {
-            self.note_arrival(tally);
+        match expected {
+            Ok(()) => self.note_arrival(bytes[1], tally),
+            Err(Refusal::PendingFull) => tally.event(WITHOUT_ROOM[usize::from(bytes[1]) - 1]),
+            Err(_) => {}
         }
         self.compare(at, tally)
     }
 
-    fn note_arrival(&mut self, tally: &mut Tally) {
-        if self.model.pending.len() == PENDING_LIMIT {
-            tally.event(Event::FullPending);
+    fn note_arrival(&mut self, group: u8, tally: &mut Tally) {
+        let full = GROUPS.map(|other| self.model.queue(other).len() == QUEUE_LIMIT);
+        if GROUPS.into_iter().zip(full).any(|(other, full)| full && other != group) {
+            tally.event(Event::BesideFull);
         }
-        if let Some(arrived) = self.model.pending.last() {
+        if full == [true; QUEUES] {
+            tally.event(Event::AllFull);
+        }
+        let queue = self.model.queue(group);
+        self.past.fill(group, queue.len(), tally);
+        if let Some(arrived) = queue.last() {
             self.past.accept(arrived.request, tally);
         }
     }
@@ -200,16 +231,18 @@ impl Pair {
             tally.event(Event::Freeze);
         }
         tally.events(Event::PerformedWrite, self.model.writes - before.writes);
-        self.past.handle(&before.pending, &self.model.pending);
+        self.past.handle(before, &self.model);
     }
 
     /// Puts something else into the free places of the other side's array.
     pub fn scramble(&mut self, random: &mut Random, tally: &mut Tally) {
         tally.event(Event::ScrambledPlaces);
-        let queue = &mut self.other.queue;
-        let (taken, free) = queue.pending.split_at_mut(queue.count.min(PENDING_LIMIT));
-        for place in free {
-            *place = some_pending(taken, self.making, random);
+        let taken = queues(&self.other).concat();
+        let places = self.other.pending.chunks_exact_mut(QUEUE_LIMIT);
+        for (queue, count) in places.zip(self.other.counts) {
+            for place in queue.iter_mut().skip(count) {
+                *place = some_pending(&taken, self.making, random);
+            }
         }
     }
 
@@ -222,7 +255,7 @@ impl Pair {
 
     fn note_step(&self, at: u64, room: usize, tally: &mut Tally) {
         let delta = self.model.delta;
-        if self.model.pending.iter().any(|waiting| waiting.arrival.0 + delta == at) {
+        if self.model.pending().any(|waiting| waiting.arrival.0 + delta == at) {
             tally.event(Event::ExactlyDelta);
         }
         if let Some(event) = event_of_room(room) {
@@ -268,14 +301,15 @@ fn note_messages(output: &[u8], tally: &mut Tally) {
 }
 
 /// Compares all that the interface settles of a replica.
-fn same_replica(model: &Replica, other: &ffi::Replica, input: &dyn Fn() -> String) -> Outcome {
+pub fn same_replica(model: &Replica, other: &ffi::Replica, input: &dyn Fn() -> String) -> Outcome {
     same("settings", to_settings(model), other.settings, input)?;
     same("number", model.number, other.number, input)?;
     same("last local time", model.last.0, other.last.0, input)?;
     same("performed writes", model.writes, other.writes, input)?;
     same_lists("variable", &model.variables, &other.variables, input)?;
-    same("number of pending requests", model.pending.len(), other.queue.count, input)?;
-    for (expected, found) in model.pending.iter().zip(&other.queue.pending) {
+    let counts = std::array::from_fn(|place| model.queues[place].len());
+    same("number of pending requests of each group", counts, other.counts, input)?;
+    for (expected, found) in model.pending().zip(queues(other).into_iter().flatten()) {
         same("pending request", ffi::Pending::from(expected), *found, input)?;
     }
     Ok(())

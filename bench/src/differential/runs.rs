@@ -5,7 +5,7 @@ use super::records::damage;
 use super::tally::{Event, Tally};
 use super::Outcome;
 use crate::model::record::{Operation, Request};
-use crate::model::{Timestamp, DELTA_LIMIT, OUTPUT_SIZE, PENDING_LIMIT, RECORD_SIZE, TIME_LIMIT};
+use crate::model::{Timestamp, DELTA_LIMIT, OUTPUT_SIZE, QUEUE_LIMIT, RECORD_SIZE, TIME_LIMIT};
 use crate::random::Random;
 use crate::traffic::{self, Cast, Traffic};
 
@@ -117,11 +117,16 @@ fn ordinary(pair: &mut Pair, making: Making, random: &mut Random, tally: &mut Ta
     last_step(pair, random, tally)
 }
 
-/// More requests than there is room for, at about the same time.
+/// More requests than there is room for, at about the same time: of all groups,
+/// or most of one.
 fn flood(pair: &mut Pair, making: Making, random: &mut Random, tally: &mut Tally) -> Outcome {
-    let mut traffic = Traffic::new(cast_of(making), random);
+    let cast = cast_of(making);
+    let mut traffic = match random.below(2) {
+        0 => Traffic::new(cast, random),
+        _ => Traffic::busy(cast, random),
+    };
     let mut at = some_start(making.delta, random);
-    for _ in 0..PENDING_LIMIT + 4 {
+    for _ in 0..usize::from(cast.groups) * (QUEUE_LIMIT + 4) {
         at = (at + random.below(2)).min(TIME_LIMIT.0);
         pair.deliver(&traffic.next(random).encode(), at, tally)?;
     }
@@ -131,12 +136,13 @@ fn flood(pair: &mut Pair, making: Making, random: &mut Random, tally: &mut Tally
     last_step(pair, random, tally)
 }
 
-/// Reads that fill the pending array but for one write of one process.
+/// Reads that fill every queue but for one write of one process.
 fn brim(pair: &mut Pair, making: Making, random: &mut Random, tally: &mut Tally) -> Outcome {
     let cast = cast_of(making);
     let mut requests = vec![lone_write(cast, random)];
-    while requests.len() < PENDING_LIMIT {
-        requests.push(some_read(cast, random));
+    for group in 1..=cast.groups {
+        let reads = QUEUE_LIMIT - usize::from(group == cast.owner);
+        requests.extend((0..reads).map(|_| some_read(cast, group, random)));
     }
     random.shuffle(&mut requests);
     let at = random.below(1_000);
@@ -157,9 +163,9 @@ fn lone_write(cast: Cast, random: &mut Random) -> Request {
     }
 }
 
-fn some_read(cast: Cast, random: &mut Random) -> Request {
+fn some_read(cast: Cast, group: u8, random: &mut Random) -> Request {
     Request {
-        group: cast.group(random),
+        group,
         process: cast.process(random),
         variable: traffic::read_variable(random),
         timestamp: Timestamp(random.below(64) * 2),
@@ -213,11 +219,11 @@ fn some_time(pair: &Pair, style: Style, random: &mut Random) -> u64 {
 
 /// The time at which some pending request is just stable, or just not.
 fn about_stable(pair: &Pair, random: &mut Random) -> u64 {
-    let pending = &pair.model.pending;
-    if pending.is_empty() {
+    let arrivals: Vec<u64> = pair.model.pending().map(|waiting| waiting.arrival.0).collect();
+    if arrivals.is_empty() {
         return 0;
     }
-    random.pick(pending).arrival.0 + pair.model.delta + random.below(2)
+    random.pick(&arrivals) + pair.model.delta + random.below(2)
 }
 
 fn bad_time(last: u64, random: &mut Random) -> u64 {

@@ -2,8 +2,8 @@
 //! of the C interface, that goes in and comes out of each call.
 
 use super::record::{Content, Message, RequestFields, READ, WRITE};
-use super::{ask, LocalTime, Refusal, Settings, Timestamp};
-use super::{replica, FAILED, OUTPUT_SIZE, PENDING_LIMIT, RECORD_SIZE, TIME_LIMIT, VARIABLES};
+use super::{ask, replica, LocalTime, Refusal, Settings, Timestamp, FAILED, OUTPUT_SIZE};
+use super::{PENDING_LIMIT, QUEUES, QUEUE_LIMIT, RECORD_SIZE, TIME_LIMIT, VARIABLES};
 
 /// A pending request with plain fields.
 #[derive(Clone, Copy, Debug, Default, PartialEq, Eq)]
@@ -21,7 +21,8 @@ pub struct SetUp {
     pub delta: u64,
 }
 
-/// One copy of the store; the first `count` places of `pending` are taken.
+/// One copy of the store. Each group has sixteen places of `pending`, group 1
+/// the first ones; the first `counts` of a group's places are taken.
 #[derive(Clone, Copy, Debug)]
 pub struct Replica {
     pub set_up: SetUp,
@@ -29,7 +30,7 @@ pub struct Replica {
     pub last: LocalTime,
     pub variables: [u32; VARIABLES],
     pub pending: [Pending; PENDING_LIMIT],
-    pub count: usize,
+    pub counts: [usize; QUEUES],
     pub writes: u64,
 }
 
@@ -64,9 +65,14 @@ impl Replica {
             last: LocalTime(0),
             variables: [0; VARIABLES],
             pending: [Pending::default(); PENDING_LIMIT],
-            count: 0,
+            counts: [0; QUEUES],
             writes: 0,
         })
+    }
+
+    /// The pending requests of a group.
+    pub fn queue(&self, group: u8) -> &[Pending] {
+        &self.pending[start(group)..][..self.counts[place(group)]]
     }
 
     /// Accepts a request. Questions 1, 2 and 6 to 14.
@@ -84,9 +90,11 @@ impl Replica {
     fn accept(&mut self, bytes: &[u8], at: LocalTime) -> Result<(), Refusal> {
         let request = Settings::new(self.set_up.k, self.set_up.groups)?.read_request(bytes)?;
         self.check_time(at)?;
-        let place = self.pending.get_mut(self.count).ok_or(Refusal::PendingFull)?;
-        *place = Pending { request: request.fields(), arrival: at };
-        self.count += 1;
+        let count = &mut self.counts[place(request.group)];
+        ask(*count < QUEUE_LIMIT, Refusal::PendingFull)?;
+        self.pending[start(request.group) + *count] =
+            Pending { request: request.fields(), arrival: at };
+        *count += 1;
         self.last = at;
         Ok(())
     }
@@ -96,11 +104,11 @@ impl Replica {
         ask(output.len() >= OUTPUT_SIZE, Refusal::TooLittleRoom)?;
         self.last = at;
         let mut sending = Sending { output, count: 0 };
-        let mut batch = [RequestFields::default(); PENDING_LIMIT];
+        let mut batch = [RequestFields::default(); QUEUE_LIMIT];
         for group in 1..=self.set_up.groups {
             while let Some(timestamp) = self.stable_head(group, at) {
                 let length = self.take(group, timestamp, &mut batch);
-                self.handle(&batch[..length], &mut sending);
+                self.handle(group, &batch[..length], &mut sending);
             }
         }
         Ok(sending.count)
@@ -114,34 +122,37 @@ impl Replica {
     /// The least timestamp of a group, if its batch is stable.
     fn stable_head(&self, group: u8, at: LocalTime) -> Option<Timestamp> {
         let mut head: Option<&Pending> = None;
-        for pending in self.pending[..self.count].iter().filter(|p| p.request.group == group) {
+        for pending in self.queue(group) {
             // Arrivals stand in order, so the first one found is the least.
             if head.is_none_or(|head| pending.request.timestamp < head.request.timestamp) {
                 head = Some(pending);
             }
         }
-        head.filter(|head| head.arrival.0 + self.set_up.delta < at.0).map(|head| head.request.timestamp)
+        head.filter(|head| head.arrival.0 + self.set_up.delta < at.0)
+            .map(|head| head.request.timestamp)
     }
 
     /// Moves a batch out and gives its length; the others move up in order.
     fn take(&mut self, group: u8, timestamp: Timestamp, batch: &mut [RequestFields]) -> usize {
+        let count = &mut self.counts[place(group)];
+        let queue = &mut self.pending[start(group)..][..*count];
         let (mut kept, mut taken) = (0, 0);
-        for place in 0..self.count {
-            let pending = self.pending[place];
-            if pending.request.group == group && pending.request.timestamp == timestamp {
+        for place in 0..queue.len() {
+            let pending = queue[place];
+            if pending.request.timestamp == timestamp {
                 batch[taken] = pending.request;
                 taken += 1;
             } else {
-                self.pending[kept] = pending;
+                queue[kept] = pending;
                 kept += 1;
             }
         }
-        self.count = kept;
+        *count = kept;
         taken
     }
 
-    fn handle(&mut self, batch: &[RequestFields], sending: &mut Sending) {
-        let (group, timestamp) = (batch[0].group, batch[0].timestamp);
+    fn handle(&mut self, group: u8, batch: &[RequestFields], sending: &mut Sending) {
+        let timestamp = batch[0].timestamp;
         match judge(batch, usize::from(self.set_up.k) + 1) {
             Verdict::Reads => self.answer(batch, sending),
             _ if group != self.set_up.owner || self.variables[FAILED] != 0 => {}
@@ -179,6 +190,16 @@ impl Replica {
             });
         }
     }
+}
+
+/// The place of a group's count.
+fn place(group: u8) -> usize {
+    usize::from(group) - 1
+}
+
+/// The first place of a group's queue.
+fn start(group: u8) -> usize {
+    place(group) * QUEUE_LIMIT
 }
 
 /// Looks at the requests of one group and timestamp, all of which passed the

@@ -1,4 +1,5 @@
-//! The examples and figures of document 01.
+//! The examples and figures of document 01, those of the queues as document 02
+//! has them.
 
 use super::journal::{delivery_entry, play_bytes, setup_entry, step_entry};
 use super::machine::Machine;
@@ -6,7 +7,7 @@ use super::record::{read_message, read_request, write_message, write_request};
 use super::record::{Content, Message, MessageFields, Operation, Request, RequestFields};
 use super::replica::Replica;
 use super::vote::{count_halts, vote, Query};
-use super::{number_of, LocalTime, Refusal, Timestamp, OUTPUT_SIZE, TIME_LIMIT};
+use super::{number_of, LocalTime, Refusal, Timestamp, OUTPUT_SIZE, QUEUE_LIMIT, TIME_LIMIT};
 
 const OWNER: u8 = 1;
 const GUEST: u8 = 2;
@@ -72,7 +73,7 @@ fn handled(requests: &[Request]) -> (Replica, Vec<Message>) {
     let mut replica = example();
     deliver_all(&mut replica, requests);
     let messages = step(&mut replica, 106);
-    assert!(replica.pending.is_empty());
+    assert_eq!(replica.pending().count(), 0);
     (replica, messages)
 }
 
@@ -88,9 +89,9 @@ fn example_1_stable_only_after_delta() {
     let mut replica = example();
     deliver_all(&mut replica, &[write(OWNER, 1, 10, 4, 7), write(OWNER, 2, 10, 4, 7)]);
     assert_eq!(step(&mut replica, 105), []);
-    assert_eq!(replica.pending.len(), 2);
+    assert_eq!(replica.queue(OWNER).len(), 2);
     assert_eq!(step(&mut replica, 106), []);
-    assert_eq!(replica.pending.len(), 0);
+    assert_eq!(replica.queue(OWNER).len(), 0);
     assert_eq!(replica.variables[4], 7);
 }
 
@@ -228,16 +229,67 @@ fn later_records_that_are_refused() {
     assert_eq!(text(&journal), expected);
 }
 
-#[test]
-fn the_65th_delivery_is_refused() {
-    let mut replica = example();
-    for stamp in 0..64 {
-        deliver(&mut replica, read(OWNER, 1, stamp, 4), 100);
+/// Reads of a group until its queue is full.
+fn fill(replica: &mut Replica, group: u8, at: u64) {
+    for stamp in replica.queue(group).len()..QUEUE_LIMIT {
+        deliver(replica, read(group, 1, stamp as u64, 4), at);
     }
+}
+
+/// Another request of the group gets 14, and nothing changes.
+fn is_full(replica: &mut Replica, group: u8, at: u64) {
     let full = replica.clone();
-    let refused = replica.deliver(&read(OWNER, 1, 64, 4).encode(), LocalTime(101));
+    let refused = replica.deliver(&read(group, 1, 16, 4).encode(), LocalTime(at));
     assert_eq!(refused, Err(Refusal::PendingFull));
-    assert_eq!(replica, full);
+    assert_eq!(*replica, full);
+}
+
+#[test]
+fn the_17th_delivery_of_a_group_is_refused() {
+    let mut replica = example();
+    fill(&mut replica, OWNER, 100);
+    assert_eq!(replica.queue(OWNER).len(), 16);
+    is_full(&mut replica, OWNER, 101);
+}
+
+#[test]
+fn a_unit_of_one_group_has_sixteen_places() {
+    let mut replica = Replica::make(0, 1, 1, 5, 1).expect("allowed settings");
+    fill(&mut replica, 1, 100);
+    assert_eq!(replica.queue(1).len(), 16);
+    is_full(&mut replica, 1, 100);
+}
+
+#[test]
+fn a_busy_guest_takes_no_place_of_the_owner() {
+    let mut replica = example();
+    fill(&mut replica, GUEST, 100);
+    is_full(&mut replica, GUEST, 101);
+    deliver(&mut replica, write(OWNER, 1, 10, 4, 7), 101);
+    deliver(&mut replica, write(OWNER, 2, 10, 4, 7), 101);
+    is_full(&mut replica, GUEST, 101);
+    assert_eq!(step(&mut replica, 107).len(), 16);
+    assert_eq!(replica.variables[4], 7);
+}
+
+#[test]
+fn each_of_four_groups_has_sixteen_places() {
+    let mut replica = Replica::make(0, 4, 3, 5, 1).expect("allowed settings");
+    (1..=4).for_each(|group| fill(&mut replica, group, 100));
+    assert_eq!(replica.pending().count(), 64);
+    (1..=4).for_each(|group| is_full(&mut replica, group, 100));
+}
+
+#[test]
+fn handling_frees_places_of_its_group_alone() {
+    let mut replica = example();
+    deliver(&mut replica, read(OWNER, 1, 0, 4), 100);
+    fill(&mut replica, OWNER, 103);
+    fill(&mut replica, GUEST, 103);
+    assert_eq!(step(&mut replica, 106).len(), 1);
+    deliver(&mut replica, read(OWNER, 1, 16, 4), 106);
+    is_full(&mut replica, OWNER, 106);
+    is_full(&mut replica, GUEST, 106);
 }
 
 #[test]
@@ -252,11 +304,12 @@ fn writing_variable_0_is_refused() {
 
 #[test]
 fn a_step_sends_at_most_67_messages() {
-    let mut replica = Replica::make(3, 1, 1, 0, 7).expect("allowed settings");
-    for stamp in 0..63 {
-        deliver(&mut replica, read(OWNER, 4, stamp, 4), 0);
+    let mut replica = Replica::make(3, 4, OWNER, 0, 7).expect("allowed settings");
+    for stamp in 0..15 {
+        (1..=4).for_each(|group| deliver(&mut replica, read(group, 4, stamp, 4), 0));
     }
-    deliver(&mut replica, write(OWNER, 1, 63, 4, 1), 0);
+    (2..=4).for_each(|group| deliver(&mut replica, read(group, 4, 15, 4), 0));
+    deliver(&mut replica, write(OWNER, 1, 15, 4, 1), 0);
     assert_eq!(step(&mut replica, 1).len(), 67);
 }
 

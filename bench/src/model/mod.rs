@@ -1,9 +1,9 @@
-//! The store of document 01, and the drill sheet of document 02, in ordinary
-//! Rust, written from the documents alone.
+//! The store of document 01, with the queues and the drill sheet of document 02,
+//! in ordinary Rust, written from the documents alone.
 //!
 //! Terms: process = program card, replica = storage card, timestamp = stamp,
-//! local time = reading, step = turn, pending = shelf, batch = head,
-//! stable = ripe, failed = frozen.
+//! local time = reading, step = turn, queue = shelf of a group, pending = on a
+//! shelf, batch = head, stable = ripe, failed = frozen.
 
 pub mod by_value;
 pub mod drill;
@@ -30,8 +30,12 @@ pub const RECORD_SIZE: usize = 24;
 pub const VARIABLES: usize = 256;
 /// The variable that holds the failed mark.
 pub const FAILED: usize = 0;
-/// How many pending requests a replica holds.
-pub const PENDING_LIMIT: usize = 64;
+/// The queues of a replica: one for each group that there can be.
+pub const QUEUES: usize = GROUP_LIMIT as usize;
+/// How many pending requests of one group a replica holds.
+pub const QUEUE_LIMIT: usize = 16;
+/// The places of all queues.
+pub const PENDING_LIMIT: usize = QUEUES * QUEUE_LIMIT;
 /// How many messages a vote or halt count looks at.
 pub const LIST_LIMIT: usize = 64;
 /// The most messages that one step sends.

@@ -1,8 +1,10 @@
-//! The replica: Figure 1 with the two repairs of document 01.
+//! The replica: Figure 1 with the two repairs of document 01, and a queue for
+//! each group.
 
 use super::record::{Content, Message, Operation, Request};
 use super::{ask, LocalTime, Refusal, Settings, Timestamp};
-use super::{DELTA_LIMIT, FAILED, OUTPUT_SIZE, PENDING_LIMIT, RECORD_SIZE, TIME_LIMIT, VARIABLES};
+use super::{DELTA_LIMIT, FAILED, OUTPUT_SIZE, QUEUES, QUEUE_LIMIT, RECORD_SIZE};
+use super::{TIME_LIMIT, VARIABLES};
 
 /// An accepted request that is not yet handled.
 #[derive(Clone, Copy, Debug, PartialEq, Eq)]
@@ -11,7 +13,10 @@ pub struct Pending {
     pub arrival: LocalTime,
 }
 
-/// One copy of the store. The pending requests stand in order of arrival.
+/// The pending requests of one group, in order of arrival.
+pub type Queue = Vec<Pending>;
+
+/// One copy of the store, with a queue for each group, group 1's first.
 #[derive(Clone, Debug, PartialEq, Eq)]
 pub struct Replica {
     pub settings: Settings,
@@ -20,7 +25,7 @@ pub struct Replica {
     pub delta: u64,
     pub last: LocalTime,
     pub variables: [u32; VARIABLES],
-    pub pending: Vec<Pending>,
+    pub queues: [Queue; QUEUES],
     pub writes: u64,
 }
 
@@ -38,7 +43,7 @@ impl Replica {
             delta,
             last: LocalTime(0),
             variables: [0; VARIABLES],
-            pending: Vec::with_capacity(PENDING_LIMIT),
+            queues: std::array::from_fn(|_| Vec::with_capacity(QUEUE_LIMIT)),
             writes: 0,
         })
     }
@@ -48,13 +53,25 @@ impl Replica {
         self.variables[FAILED] != 0
     }
 
-    /// Accepts a request. Questions 6 to 14.
+    /// The queue of a group.
+    pub fn queue(&self, group: u8) -> &Queue {
+        &self.queues[usize::from(group) - 1]
+    }
+
+    /// All pending requests, group by group.
+    pub fn pending(&self) -> impl Iterator<Item = &Pending> {
+        self.queues.iter().flatten()
+    }
+
+    /// Accepts a request. Questions 6 to 14; the last looks at the sender's
+    /// group alone.
     pub fn deliver(&mut self, bytes: &[u8], at: LocalTime) -> Result<(), Refusal> {
         let request = self.settings.read_request(bytes)?;
         self.check_time(at)?;
-        ask(self.pending.len() < PENDING_LIMIT, Refusal::PendingFull)?;
+        let queue = &mut self.queues[usize::from(request.group) - 1];
+        ask(queue.len() < QUEUE_LIMIT, Refusal::PendingFull)?;
+        queue.push(Pending { request, arrival: at });
         self.last = at;
-        self.pending.push(Pending { request, arrival: at });
         Ok(())
     }
 
@@ -64,10 +81,10 @@ impl Replica {
         self.check_time(at)?;
         ask(output.len() >= OUTPUT_SIZE, Refusal::TooLittleRoom)?;
         self.last = at;
-        let mut sent = Vec::new();
+        let (mut batch, mut sent) = (Vec::new(), Vec::new());
         for group in 1..=self.settings.groups() {
-            while let Some(batch) = self.take_stable_batch(group, at) {
-                self.handle(&batch, &mut sent);
+            while self.take_stable_batch(group, at, &mut batch) {
+                self.handle(group, &batch, &mut sent);
             }
         }
         for (message, place) in sent.iter().zip(output.chunks_exact_mut(RECORD_SIZE)) {
@@ -81,38 +98,27 @@ impl Replica {
         ask(at >= self.last, Refusal::TimeGoesBack)
     }
 
-    /// The least timestamp of a group and the first arrival with it.
-    fn head(&self, group: u8) -> Option<(Timestamp, LocalTime)> {
-        self.pending
-            .iter()
-            .filter(|waiting| waiting.request.group == group)
-            .map(|waiting| (waiting.request.timestamp, waiting.arrival))
-            .min()
-    }
-
     /// Takes the group's requests with its least timestamp, if they are stable.
-    fn take_stable_batch(&mut self, group: u8, at: LocalTime) -> Option<Vec<Request>> {
-        let (timestamp, first) = self.head(group)?;
-        if first.0 + self.delta >= at.0 {
-            return None;
-        }
-        let mut batch = Vec::new();
-        self.pending.retain(|waiting| {
-            let request = waiting.request;
-            let taken = request.group == group && request.timestamp == timestamp;
+    fn take_stable_batch(&mut self, group: u8, at: LocalTime, batch: &mut Vec<Request>) -> bool {
+        let queue = &mut self.queues[usize::from(group) - 1];
+        let stable = |first: LocalTime| first.0 + self.delta < at.0;
+        let Some((timestamp, _)) = head(queue).filter(|head| stable(head.1)) else { return false };
+        batch.clear();
+        queue.retain(|waiting| {
+            let taken = waiting.request.timestamp == timestamp;
             if taken {
-                batch.push(request);
+                batch.push(waiting.request);
             }
             !taken
         });
-        Some(batch)
+        true
     }
 
-    /// Handles one batch: requests of one group and timestamp.
-    fn handle(&mut self, batch: &[Request], sent: &mut Vec<Message>) {
+    /// Handles one batch of a group: its requests of one timestamp.
+    fn handle(&mut self, group: u8, batch: &[Request], sent: &mut Vec<Message>) {
         if batch.iter().all(Request::is_read) {
             sent.extend(batch.iter().map(|request| self.answer(request)));
-        } else if batch[0].group == self.owner && !self.failed() {
+        } else if group == self.owner && !self.failed() {
             match self.unanimous_write(batch) {
                 Some((variable, value)) => self.perform(variable, value),
                 None => self.fail(batch[0].timestamp, sent),
@@ -162,4 +168,9 @@ impl Replica {
             content: Content::Halt,
         }));
     }
+}
+
+/// The least timestamp in a queue and the first arrival with it.
+fn head(queue: &[Pending]) -> Option<(Timestamp, LocalTime)> {
+    queue.iter().map(|waiting| (waiting.request.timestamp, waiting.arrival)).min()
 }

@@ -4,6 +4,7 @@
 
 pub mod journal;
 pub mod list;
+mod queues;
 mod records;
 mod replicas;
 mod steps;

@@ -1,9 +1,10 @@
 //! Making a replica and delivery to it, as each mutant does it.
 
 use super::list::{chosen, is, Mutant};
+use super::queues;
 use super::records::read_request;
 use crate::model::replica::Replica;
-use crate::model::{LocalTime, Refusal, DELTA_LIMIT, PENDING_LIMIT, TIME_LIMIT};
+use crate::model::{LocalTime, Refusal, DELTA_LIMIT, TIME_LIMIT};
 
 pub fn make(k: u8, n: u8, owner: u8, delta: u64, number: u8) -> Result<Replica, Refusal> {
     match Replica::make(k, n, owner, delta, number) {
@@ -20,13 +21,8 @@ pub fn deliver(replica: &mut Replica, bytes: &[u8], at: LocalTime) -> Result<(),
     let before = replica.clone();
     let settings = replica.settings;
     let result = read_request(settings.k(), settings.groups(), bytes)
-        .and_then(|request| replica.deliver(&request.encode(), at));
+        .and_then(|request| queues::deliver(replica, request, at));
     match (chosen(), result) {
-        (Some(Mutant::SixtyFifthAccepted), Err(Refusal::PendingFull)) => Ok(()),
-        (Some(Mutant::SixtyFourthRefused), Ok(())) if replica.pending.len() == PENDING_LIMIT => {
-            *replica = before;
-            Err(Refusal::PendingFull)
-        }
         (Some(Mutant::LastTimeRefused), Ok(())) if at == TIME_LIMIT => {
             *replica = before;
             Err(Refusal::TimeTooLarge)

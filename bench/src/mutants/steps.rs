@@ -6,18 +6,21 @@ use super::list::{chosen, is, Mutant};
 use crate::convert::from_replica;
 use crate::ffi;
 use crate::model::record::{Request, HALT};
-use crate::model::replica::{Pending, Replica};
+use crate::model::replica::{Pending, Queue, Replica};
 use crate::model::{LocalTime, Refusal, Timestamp};
-use crate::model::{FAILED, OUTPUT_SIZE, PENDING_LIMIT, RECORD_SIZE, TIME_LIMIT};
+use crate::model::{FAILED, OUTPUT_SIZE, QUEUES, QUEUE_LIMIT, RECORD_SIZE, TIME_LIMIT};
 
 /// The number of messages that a step sends.
 type Stepped = Result<usize, Refusal>;
 
-/// Takes one more request out of the array, if it looks like one.
+/// Takes one more request out of the places of a group, if it looks like one.
 pub fn before_step(model: &mut Replica, replica: &ffi::Replica) {
-    if is(Mutant::FreePlaceTaken) && replica.queue.count < PENDING_LIMIT {
+    if !is(Mutant::FreePlaceTaken) {
+        return;
+    }
+    for place in (0..QUEUES).filter(|&place| replica.counts[place] < QUEUE_LIMIT) {
         let mut longer = *replica;
-        longer.queue.count += 1;
+        longer.counts[place] += 1;
         if let Some(longer) = from_replica(&longer) {
             *model = longer;
         }
@@ -27,22 +30,23 @@ pub fn before_step(model: &mut Replica, replica: &ffi::Replica) {
 pub fn step(replica: &mut Replica, at: LocalTime, output: &mut [u8]) -> Stepped {
     match chosen() {
         Some(Mutant::StableAtEquality) => stable_at_equality(replica, at, output),
-        Some(Mutant::LatestArrival) => disguised(replica, at, output, |p| take_latest_arrival(p)),
+        Some(Mutant::LatestArrival) => disguised(replica, at, output, take_latest_arrival),
         Some(Mutant::UnstableSkipped) => {
             let delta = replica.delta;
-            disguised(replica, at, output, |pending| hide_unstable(pending, delta, at))
+            disguised(replica, at, output, |queue| hide_unstable(queue, delta, at))
         }
         Some(Mutant::OneBatchOnly) => disguised(replica, at, output, hide_later),
-        Some(Mutant::SendersIgnored) => disguised(replica, at, output, |p| renumber_senders(p)),
+        Some(Mutant::SendersIgnored) => disguised(replica, at, output, renumber_senders),
         Some(Mutant::RepeatPasses) => disguised(replica, at, output, drop_repeats),
         Some(Mutant::MixedReadIgnored) => disguised(replica, at, output, drop_mixed_reads),
-        Some(Mutant::RepliesReversed) => disguised(replica, at, output, |p| p.reverse()),
+        Some(Mutant::RepliesReversed) => disguised(replica, at, output, |queue| queue.reverse()),
         Some(Mutant::LastHaltMissing) => without_last_halt(replica, at, output),
         Some(Mutant::RoomBeforeTime) if output.len() < OUTPUT_SIZE => Err(Refusal::TooLittleRoom),
         Some(Mutant::OwnerIsLastGroup) => with_other_owner(replica, at, output),
         Some(Mutant::FailedGoesOn) => forgetting_failure(replica, at, output),
         Some(Mutant::FailedIsSilent) => silent_when_failed(replica, at, output),
         Some(Mutant::SignedTimestamps) => with_signed_timestamps(replica, at, output),
+        Some(Mutant::NextQueueVisited) => visiting_next_queue(replica, at, output),
         Some(Mutant::LastTimeRefused) if at == TIME_LIMIT => Err(Refusal::TimeTooLarge),
         _ => spoiled_afterwards(replica, at, output),
     }
@@ -58,8 +62,8 @@ fn spoiled_afterwards(replica: &mut Replica, at: LocalTime, output: &mut [u8]) -
         (Some(Mutant::RefusedStepWrites), Err(_)) => output.fill(0),
         (Some(Mutant::WritesNotCounted), Ok(_)) => replica.writes = writes,
         (Some(Mutant::StepKeepsClock), Ok(_)) => replica.last = last,
-        (Some(Mutant::PendingSwapped), Ok(_)) if replica.pending.len() > 1 => {
-            replica.pending.swap(0, 1);
+        (Some(Mutant::PendingSwapped), Ok(_)) => {
+            replica.queues.iter_mut().filter(|queue| queue.len() > 1).for_each(|q| q.swap(0, 1));
         }
         _ => {}
     }
@@ -77,17 +81,19 @@ fn stable_at_equality(replica: &mut Replica, at: LocalTime, output: &mut [u8]) -
     result
 }
 
-/// The batch that a pending request belongs to.
-fn batch_of(pending: &Pending) -> (u8, Timestamp) {
-    (pending.request.group, pending.request.timestamp)
+fn timestamp_of(pending: &Pending) -> Timestamp {
+    pending.request.timestamp
 }
 
-fn batches(pending: &[Pending]) -> BTreeSet<(u8, Timestamp)> {
-    pending.iter().map(batch_of).collect()
+/// The timestamps of a queue's batches.
+fn batches(queue: &Queue) -> BTreeSet<Timestamp> {
+    queue.iter().map(timestamp_of).collect()
 }
 
-fn in_batch(pending: &[Pending], batch: (u8, Timestamp)) -> impl Iterator<Item = &Pending> {
-    pending.iter().filter(move |waiting| batch_of(waiting) == batch)
+/// The requests of a queue in the batch of one of them.
+fn in_batch<'a>(queue: &'a Queue, one: &Pending) -> impl Iterator<Item = &'a Pending> {
+    let timestamp = timestamp_of(one);
+    queue.iter().filter(move |waiting| timestamp_of(waiting) == timestamp)
 }
 
 /// A step with other pending requests. Those that were not handled stay as
@@ -96,64 +102,60 @@ fn disguised(
     replica: &mut Replica,
     at: LocalTime,
     output: &mut [u8],
-    disguise: impl FnOnce(&mut Vec<Pending>),
+    disguise: impl Fn(&mut Queue),
 ) -> Stepped {
     let mut other = replica.clone();
-    disguise(&mut other.pending);
-    let before = batches(&other.pending);
+    other.queues.iter_mut().for_each(disguise);
+    let before = other.queues.each_ref().map(batches);
     let count = other.step(at, output)?;
-    let after = batches(&other.pending);
-    let handled = |waiting: &Pending| {
-        before.contains(&batch_of(waiting)) && !after.contains(&batch_of(waiting))
-    };
-    other.pending = replica.pending.iter().copied().filter(|p| !handled(p)).collect();
+    for (place, queue) in replica.queues.iter().enumerate() {
+        let after = batches(&other.queues[place]);
+        let handled = |p: &Pending| {
+            before[place].contains(&timestamp_of(p)) && !after.contains(&timestamp_of(p))
+        };
+        other.queues[place] = queue.iter().copied().filter(|p| !handled(p)).collect();
+    }
     *replica = other;
     Ok(count)
 }
 
-fn take_latest_arrival(pending: &mut [Pending]) {
-    let original = pending.to_vec();
-    for waiting in pending {
-        let latest = in_batch(&original, batch_of(waiting)).map(|p| p.arrival).max();
+fn take_latest_arrival(queue: &mut Queue) {
+    let original = queue.clone();
+    for waiting in queue {
+        let latest = in_batch(&original, waiting).map(|p| p.arrival).max();
         waiting.arrival = latest.unwrap_or(waiting.arrival);
     }
 }
 
-fn hide_unstable(pending: &mut Vec<Pending>, delta: u64, at: LocalTime) {
-    let original = pending.clone();
-    pending.retain(|waiting| {
-        in_batch(&original, batch_of(waiting)).any(|p| p.arrival.0 + delta < at.0)
-    });
+fn hide_unstable(queue: &mut Queue, delta: u64, at: LocalTime) {
+    let original = queue.clone();
+    queue.retain(|waiting| in_batch(&original, waiting).any(|p| p.arrival.0 + delta < at.0));
 }
 
-fn hide_later(pending: &mut Vec<Pending>) {
-    let all = batches(pending);
-    pending.retain(|waiting| {
-        let (group, timestamp) = batch_of(waiting);
-        !all.iter().any(|&(other, earlier)| other == group && earlier < timestamp)
-    });
+fn hide_later(queue: &mut Queue) {
+    let first = queue.iter().map(timestamp_of).min();
+    queue.retain(|waiting| Some(timestamp_of(waiting)) == first);
 }
 
-fn renumber_senders(pending: &mut [Pending]) {
-    let mut next: Vec<((u8, Timestamp), u8)> = Vec::new();
-    for waiting in pending.iter_mut().filter(|p| !p.request.is_read()) {
-        let batch = batch_of(waiting);
-        let number = 1 + next.iter().filter(|&&(other, _)| other == batch).count() as u8;
-        next.push((batch, number));
-        waiting.request.process = number;
+fn renumber_senders(queue: &mut Queue) {
+    let mut seen: Vec<Timestamp> = Vec::new();
+    for waiting in queue.iter_mut().filter(|p| !p.request.is_read()) {
+        let timestamp = timestamp_of(waiting);
+        let earlier = seen.iter().filter(|&&other| other == timestamp).count();
+        seen.push(timestamp);
+        waiting.request.process = 1 + earlier as u8;
     }
 }
 
-fn drop_repeats(pending: &mut Vec<Pending>) {
+fn drop_repeats(queue: &mut Queue) {
     let mut seen: BTreeSet<Request> = BTreeSet::new();
-    pending.retain(|p| p.request.is_read() || seen.insert(p.request));
+    queue.retain(|p| p.request.is_read() || seen.insert(p.request));
 }
 
-fn drop_mixed_reads(pending: &mut Vec<Pending>) {
-    let original = pending.clone();
-    pending.retain(|waiting| {
-        !waiting.request.is_read()
-            || in_batch(&original, batch_of(waiting)).all(|p| p.request.is_read())
+fn drop_mixed_reads(queue: &mut Queue) {
+    let original = queue.clone();
+    queue.retain(|waiting| {
+        !waiting.request.is_read() || in_batch(&original, waiting).all(|p| p.request.is_read())
     });
 }
 
@@ -189,16 +191,26 @@ fn silent_when_failed(replica: &mut Replica, at: LocalTime, output: &mut [u8]) -
     replica.step(at, &mut output.to_vec()).map(|_| 0)
 }
 
-fn turn_sign(timestamp: &mut Timestamp) {
-    timestamp.0 ^= 1 << 63;
+fn turn_signs(replica: &mut Replica) {
+    for waiting in replica.queues.iter_mut().flatten() {
+        waiting.request.timestamp.0 ^= 1 << 63;
+    }
 }
 
 fn with_signed_timestamps(replica: &mut Replica, at: LocalTime, output: &mut [u8]) -> Stepped {
-    replica.pending.iter_mut().for_each(|p| turn_sign(&mut p.request.timestamp));
+    turn_signs(replica);
     let result = replica.step(at, output);
-    replica.pending.iter_mut().for_each(|p| turn_sign(&mut p.request.timestamp));
+    turn_signs(replica);
     for record in output.chunks_exact_mut(RECORD_SIZE).take(result.unwrap_or(0)) {
         record[8] ^= 0x80;
     }
+    result
+}
+
+/// Each group's visit finds the queue of the group behind it, the last one's the first.
+fn visiting_next_queue(replica: &mut Replica, at: LocalTime, output: &mut [u8]) -> Stepped {
+    replica.queues.rotate_left(1);
+    let result = replica.step(at, output);
+    replica.queues.rotate_right(1);
     result
 }

@@ -9,7 +9,7 @@ use crate::convert::{from_replica, to_replica};
 use crate::ffi;
 use crate::model::record::MessageFields;
 use crate::model::replica::Replica;
-use crate::model::{number_of, LocalTime, Refusal, LIST_LIMIT};
+use crate::model::{number_of, LocalTime, Refusal, Settings, LIST_LIMIT};
 
 // Each of them must be lent `length` bytes at its pointer, as `ffi` does.
 
@@ -62,9 +62,15 @@ unsafe extern "C" fn failstop_write_message(
 #[no_mangle]
 extern "C" fn failstop_make(u: ffi::Settings, number: u8) -> ffi::ReplicaResult {
     let result = replicas::make(u.k, u.groups, u.owner, u.delta, number);
-    let refusal = number_of(&result);
-    let replica = result.unwrap_or_else(|_| Replica::make(0, 1, 1, 0, 1).expect("allowed"));
-    ffi::ReplicaResult { refusal, replica: to_replica(&replica) }
+    let replica = result.as_ref().map_or_else(|_| blank(), to_replica);
+    ffi::ReplicaResult { refusal: number_of(&result), replica }
+}
+
+/// What stands beside a refused making: zeros.
+fn blank() -> ffi::Replica {
+    let model = Replica::make(0, 1, 1, 0, 1).expect("allowed");
+    let settings = ffi::Settings { k: 0, groups: 0, owner: 0, delta: 0 };
+    ffi::Replica { settings, number: 0, ..to_replica(&model) }
 }
 
 #[no_mangle]
@@ -75,13 +81,19 @@ unsafe extern "C" fn failstop_deliver(
     at: ffi::LocalTime,
 ) -> ffi::ReplicaResult {
     let Some(mut model) = from_replica(&r) else {
-        return ffi::ReplicaResult { refusal: Refusal::K.number(), replica: r };
+        return ffi::ReplicaResult { refusal: refusal_of_malformed(r.settings), replica: r };
     };
     let bytes = from_raw_parts(bytes, length);
     let refusal = number_of(&replicas::deliver(&mut model, bytes, LocalTime(at.0)));
     ffi::ReplicaResult { refusal, replica: to_replica(&model) }
 }
 
+/// A replica that no call leaves accepts nothing; of the blank one question 2 says so.
+fn refusal_of_malformed(u: ffi::Settings) -> u8 {
+    Settings::new(u.k, u.groups).err().unwrap_or(Refusal::K).number()
+}
+
+/// A step of a replica that no call leaves only notes the time, as that of the blank one does.
 #[no_mangle]
 unsafe extern "C" fn failstop_step(
     r: ffi::Replica,
@@ -90,7 +102,7 @@ unsafe extern "C" fn failstop_step(
     length: usize,
 ) -> ffi::StepResult {
     let Some(mut model) = from_replica(&r) else {
-        return ffi::StepResult { refusal: Refusal::K.number(), count: 0, replica: r };
+        return ffi::StepResult { refusal: 0, count: 0, replica: ffi::Replica { last: at, ..r } };
     };
     steps::before_step(&mut model, &r);
     let output = from_raw_parts_mut(output, length);

@@ -1,12 +1,10 @@
-//! The bus: when each request reaches a replica, and the run that follows.
+//! The bus: when each request reaches a replica.
 
-use super::counts::Counts;
+use super::guests::add_guests;
 use super::plan::Plan;
-use crate::ffi;
-use crate::model::record::{Message, Request};
-use crate::model::{Settings, Timestamp, OUTPUT_SIZE, RECORD_SIZE, TIME_LIMIT};
+use crate::model::record::Request;
+use crate::model::{QUEUE_LIMIT, TIME_LIMIT};
 use crate::random::Random;
-use crate::traffic::{batch, Sort};
 
 /// What happens at a replica.
 #[derive(Clone, Copy)]
@@ -63,12 +61,21 @@ fn some_start(end: u64, random: &mut Random) -> u64 {
     }
 }
 
+/// The owner's arrivals; where it is paced, with a step before there can be
+/// more than its queue holds.
 fn owner_arrivals(plan: &Plan, random: &mut Random) -> Schedule {
     let delta = plan.delta;
     let gaps = random.pick(&[0, 1, delta / 2, delta, 2 * delta + 2]);
-    let mut base = 0;
+    let (mut base, mut under_way) = (0, 0);
     let mut schedule = Vec::new();
     for batch in &plan.bag {
+        if plan.paced && under_way + batch.len() > QUEUE_LIMIT {
+            // The last arrived at base + delta at the latest.
+            base += 2 * delta + 2;
+            schedule.push((base - 1, Happening::Step));
+            under_way = 0;
+        }
+        under_way += batch.len();
         for request in batch {
             let delay = some_delay(delta, random);
             schedule.push((base + delay, Happening::Owner(*request)));
@@ -101,18 +108,6 @@ fn add_steps(plan: &Plan, end: u64, schedule: &mut Schedule, random: &mut Random
     }
 }
 
-/// Guests read and write as they like, differently at each replica.
-fn add_guests(plan: &Plan, end: u64, schedule: &mut Schedule, random: &mut Random) {
-    for _ in 0..random.index(12) {
-        let Some(guest) = plan.cast.guest(random) else { continue };
-        let sort = random.pick(&[Sort::Reads, Sort::Reads, Sort::Unanimous, Sort::Missing]);
-        let timestamp = Timestamp(random.below(20));
-        for request in batch(plan.cast, guest, sort, timestamp, random) {
-            schedule.push((random.below(end + 1), Happening::Guest(request)));
-        }
-    }
-}
-
 fn add_troubles(end: u64, schedule: &mut Schedule, random: &mut Random) {
     for _ in 0..random.index(6) {
         let trouble = random.pick(&[
@@ -126,132 +121,10 @@ fn add_troubles(end: u64, schedule: &mut Schedule, random: &mut Random) {
     }
 }
 
-/// What a correct replica did.
-pub struct Run {
-    pub number: u8,
-    pub replica: ffi::Replica,
-    /// The owner's accepted requests in order of arrival.
-    pub accepted: Vec<Request>,
-    /// All messages of its accepted steps, in order.
-    pub messages: Vec<Message>,
-}
-
-/// A correct replica while its schedule is played.
-struct Player<'a> {
-    settings: Settings,
-    run: Run,
-    counts: &'a mut Counts,
-}
-
-/// Plays a schedule on a new replica through the C functions. Nothing comes
-/// out where a request of the owner found no room.
-pub fn play(
-    plan: &Plan,
-    number: u8,
-    schedule: &Schedule,
-    random: &mut Random,
-    counts: &mut Counts,
-) -> Result<Option<Run>, String> {
-    let cast = plan.cast;
-    let settings = Settings::new(cast.k, cast.groups).expect("allowed settings");
-    let (k, groups, owner, delta) = (cast.k, cast.groups, cast.owner, plan.delta);
-    let made = ffi::make(ffi::Settings { k, groups, owner, delta }, number);
-    expect("make", made.refusal == 0, made.refusal)?;
-    let run = Run { number, replica: made.replica, accepted: Vec::new(), messages: Vec::new() };
-    let mut player = Player { settings, run, counts };
-    for &(at, happening) in schedule {
-        match happening {
-            Happening::Owner(request) => {
-                if !player.deliver_owners(request, at)? {
-                    return Ok(None);
-                }
-            }
-            Happening::Guest(request) => player.deliver_guests(request, at)?,
-            Happening::Step => player.step(at)?,
-            Happening::Refused(trouble) => player.be_refused(trouble, at, random)?,
-        }
-    }
-    Ok(Some(player.run))
-}
-
-fn expect(what: &str, allowed: bool, refusal: u8) -> Result<(), String> {
-    if allowed {
-        Ok(())
-    } else {
-        Err(format!("{what} answered {refusal}"))
-    }
-}
-
-impl Player<'_> {
-    fn deliver(&mut self, bytes: &[u8], at: u64) -> u8 {
-        let found = ffi::deliver(self.run.replica, bytes, ffi::LocalTime(at));
-        self.run.replica = found.replica;
-        found.refusal
-    }
-
-    /// Whether there was room.
-    fn deliver_owners(&mut self, request: Request, at: u64) -> Result<bool, String> {
-        let refusal = self.deliver(&request.encode(), at);
-        expect("delivery of the owner's", refusal == 0 || refusal == 14, refusal)?;
-        if refusal == 0 {
-            self.counts.arrivals += 1;
-            self.run.accepted.push(request);
-        }
-        Ok(refusal == 0)
-    }
-
-    fn deliver_guests(&mut self, request: Request, at: u64) -> Result<(), String> {
-        let refusal = self.deliver(&request.encode(), at);
-        self.counts.guest_requests += 1;
-        self.counts.guests_without_room += u64::from(refusal == 14);
-        expect("delivery of a guest's", refusal == 0 || refusal == 14, refusal)
-    }
-
-    fn step(&mut self, at: u64) -> Result<(), String> {
-        let mut output = [0; OUTPUT_SIZE];
-        let found = ffi::step(self.run.replica, ffi::LocalTime(at), &mut output);
-        expect("step", found.refusal == 0, found.refusal)?;
-        self.run.replica = found.replica;
-        self.counts.steps += 1;
-        for record in output.chunks_exact(RECORD_SIZE).take(found.count) {
-            let message = self.settings.read_message(record);
-            let message = message.map_err(|refusal| format!("a message has {refusal:?}"))?;
-            self.run.messages.push(message);
-        }
-        Ok(())
-    }
-
-    /// A call that must be refused, at a time that it must not move.
-    fn be_refused(&mut self, trouble: Trouble, at: u64, random: &mut Random) -> Result<(), String> {
-        self.counts.refused_calls += 1;
-        let mut request = [0; RECORD_SIZE];
-        request[..3].copy_from_slice(&[1, 1, 1]);
-        let last = self.run.replica.last.0;
-        let expected = match trouble {
-            Trouble::DamagedRequest => {
-                request[6] = random.byte() | 1;
-                (self.deliver(&request, at), 11)
-            }
-            Trouble::ShortRequest => (self.deliver(&request[..random.index(24)], at), 6),
-            Trouble::TimeTooLarge => (self.deliver(&request, TIME_LIMIT.0 + 1), 12),
-            Trouble::TimeGoesBack if last > 0 => (self.deliver(&request, last - 1), 13),
-            Trouble::TimeGoesBack => return Ok(()),
-            Trouble::NoRoom => (self.step_without_room(at), 15),
-        };
-        expect("a call that must be refused", expected.0 == expected.1, expected.0)
-    }
-
-    fn step_without_room(&mut self, at: u64) -> u8 {
-        let mut output = [0; OUTPUT_SIZE - 1];
-        let found = ffi::step(self.run.replica, ffi::LocalTime(at), &mut output);
-        self.run.replica = found.replica;
-        found.refusal
-    }
-}
-
 #[cfg(test)]
 mod tests {
     use super::*;
+    use crate::model::Timestamp;
     use crate::simulation::plan::some_plan;
 
     /// The owner's arrivals of a schedule with their local times.

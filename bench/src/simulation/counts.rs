@@ -15,9 +15,14 @@ pub struct Counts {
     pub with_k_liars: u64,
     pub units_of_k: [u64; 4],
     pub ways: [u64; WAYS.len()],
+    pub busy: u64,
     pub arrivals: u64,
+    pub arrivals_beside_full: u64,
+    pub owners_without_room: u64,
     pub guest_requests: u64,
     pub guests_without_room: u64,
+    pub served_beside_full: u64,
+    pub without_guests: u64,
     pub refused_calls: u64,
     pub steps: u64,
     pub frozen: u64,
@@ -35,6 +40,7 @@ impl Counts {
         self.units += 1;
         self.units_of_k[usize::from(plan.cast.k)] += 1;
         self.with_k_liars += u64::from(plan.liars.len() == usize::from(plan.cast.k));
+        self.busy += u64::from(plan.busy.is_some());
         for liar in &plan.liars {
             self.ways[liar.way.place()] += 1;
         }
@@ -56,18 +62,23 @@ impl Counts {
         for (times, way) in self.ways.iter().zip(WAYS) {
             rows.push((*times, format!("lying replicas: {way}"), true));
         }
-        let more: [(u64, &str, bool); 15] = [
+        let more: [(u64, &str, bool); 20] = [
             (self.with_k_liars, "units with k lying replicas", true),
-            (self.discarded, "units without room for a request of the owner", false),
+            (self.busy, "units with a guest that sends more than its queue holds", true),
+            (self.discarded, "units without room for a request of the owner", true),
             (self.frozen, "units that froze", true),
             (self.units - self.discarded - self.frozen, "units that did not", true),
             (self.writes, "performed writes of the machine", true),
             (self.replies, "replies of the machine", true),
             (self.arrivals, "arrivals of the owner's requests at replicas", true),
+            (self.arrivals_beside_full, "such arrivals while a guest's queue was full", true),
+            (self.owners_without_room, "deliveries of the owner without room", true),
             (self.guest_requests, "deliveries of guests", true),
-            (self.guests_without_room, "of them without room", false),
+            (self.guests_without_room, "deliveries of guests without room", true),
             (self.refused_calls, "calls that had to be refused", true),
             (self.steps, "steps", true),
+            (self.served_beside_full, "steps for the owner while a guest's queue was full", true),
+            (self.without_guests, "runs that were for the owner as they are without guests", true),
             (self.votes, "votes", true),
             (self.halt_counts, "halt counts", true),
             (self.lies, "lies in the lists", true),

@@ -1,9 +1,9 @@
 //! Lists of messages: unforged, whole, within 64, in any order.
 
-use super::bus::Run;
 use super::counts::Counts;
 use super::liars::Scene;
 use super::plan::Plan;
+use super::player::Run;
 use crate::model::machine::Machine;
 use crate::model::record::{Content, Message, MessageFields, Request};
 use crate::model::vote::Query;

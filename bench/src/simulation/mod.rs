@@ -6,9 +6,11 @@
 mod bag;
 mod bus;
 mod counts;
+mod guests;
 mod liars;
 mod lists;
 mod plan;
+mod player;
 
 pub use counts::Counts;
 
@@ -16,14 +18,15 @@ use crate::convert::to_list;
 use crate::difference::{compare, compare_lists, Difference};
 use crate::ffi;
 use crate::model::machine::Machine;
-use crate::model::record::{Content, Message, MessageFields, HALT, REPLY};
+use crate::model::record::{Content, MessageFields, HALT, REPLY};
 use crate::model::vote::{count_halts, Query};
 use crate::random::Random;
 use crate::traffic::Cast;
 
-use bus::{play, some_schedule, Run};
+use bus::{some_schedule, Happening, Schedule};
 use lists::Lists;
 use plan::{some_plan, Plan};
+use player::{play, Run};
 
 /// Simulates one generated unit. The plan comes with a difference.
 pub fn simulate(random: &mut Random, counts: &mut Counts) -> Result<(), Difference> {
@@ -34,48 +37,62 @@ pub fn simulate(random: &mut Random, counts: &mut Counts) -> Result<(), Differen
 }
 
 fn carry_out(plan: &Plan, random: &mut Random, counts: &mut Counts) -> Result<(), String> {
-    let Some(runs) = run_correct(plan, random, counts)? else {
+    let runs = run_correct(plan, random, counts)?;
+    if runs.iter().any(|run| !run.refused.is_empty()) {
+        // The bags are not the same, so there is no machine for all.
         counts.discarded += 1;
         return Ok(());
-    };
+    }
     let machine = Machine::run(plan.cast.k, plan.cast.owner, &plan.bag.concat());
     counts.machine(&machine);
-    for run in &runs {
-        compare_with_machine(plan, run)?;
-    }
     let lists = Lists::new(plan, &runs, &machine);
     votes(&lists, random, counts)?;
     halts(&lists, random, counts)
 }
 
-/// The runs of all correct replicas; nothing where one of them had no room
-/// for a request of the owner, for then the bags are not the same.
-fn run_correct(
-    plan: &Plan,
-    random: &mut Random,
-    counts: &mut Counts,
-) -> Result<Option<Vec<Run>>, String> {
+/// The runs of all correct replicas.
+fn run_correct(plan: &Plan, random: &mut Random, counts: &mut Counts) -> Result<Vec<Run>, String> {
     let mut runs = Vec::new();
     for number in plan.correct() {
         let schedule = some_schedule(plan, random);
-        match play(plan, number, &schedule, random, counts)? {
-            Some(run) => runs.push(run),
-            None => return Ok(None),
+        let run = play(plan, number, &schedule, random, counts)?;
+        compare_with_machine(plan, &run)?;
+        if plan.cast.groups > 1 {
+            compare_without_guests(plan, &schedule, &run, random)?;
+            counts.without_guests += 1;
         }
+        runs.push(run);
     }
-    Ok(Some(runs))
+    Ok(runs)
+}
+
+/// The owner must be served as if there were no guests: without them the same
+/// of its requests are refused, and it is sent the same.
+fn compare_without_guests(
+    plan: &Plan,
+    schedule: &Schedule,
+    run: &Run,
+    random: &mut Random,
+) -> Result<(), String> {
+    let owner = plan.cast.owner;
+    let is_guests = |happening: &Happening| matches!(happening, Happening::Guest(_));
+    let alone = schedule.iter().copied().filter(|(_, happening)| !is_guests(happening)).collect();
+    let alone = play(plan, run.number, &alone, random, &mut Counts::default())?;
+    compare("without guests, refused requests of the owner", &alone.refused, &run.refused)?;
+    compare("without guests, accepted ones", &alone.accepted, &run.accepted)?;
+    compare("without guests, messages", alone.messages_to(owner), run.messages_to(owner))
 }
 
 /// A correct replica must hold and have sent what the machine holds and says.
 fn compare_with_machine(plan: &Plan, run: &Run) -> Result<(), String> {
     let Cast { k, owner, .. } = plan.cast;
     let machine = Machine::run(k, owner, &run.accepted);
-    let sent: Vec<Message> = run.messages.iter().copied().filter(|m| m.group == owner).collect();
     let number = run.number;
     let variables = &run.replica.variables;
     compare_lists(&format!("replica {number}, variable"), &machine.variables, variables)?;
     compare(&format!("writes of replica {number}"), machine.writes, run.replica.writes)?;
-    compare(&format!("messages of replica {number}"), machine.messages(number), sent)
+    let messages = run.messages_to(owner);
+    compare(&format!("messages of replica {number}"), machine.messages(number), messages)
 }
 
 /// The vote on each of the owner's unmixed reads.

@@ -12,6 +12,10 @@ pub struct Plan {
     pub cast: Cast,
     pub delta: u64,
     pub liars: Vec<Liar>,
+    /// A guest that sends more than its queue holds.
+    pub busy: Option<u8>,
+    /// Whether the owner waits before it sends more than its queue holds.
+    pub paced: bool,
     /// The owner's requests, by rising timestamp.
     pub bag: Vec<Vec<Request>>,
 }
@@ -21,7 +25,15 @@ pub fn some_plan(random: &mut Random) -> Plan {
     let cast = Cast { k: random.small(1, 3), groups, owner: random.small(1, groups) };
     let delta = random.pick(&[0, 1, 2, 5, 17, 1_000, 1_000_000]);
     let liars = some_liars(cast, random);
-    Plan { cast, delta, liars, bag: some_bag(cast, random) }
+    let busy = some_busy_guest(cast, random);
+    let paced = random.chance(7, 8);
+    Plan { cast, delta, liars, busy, paced, bag: some_bag(cast, random) }
+}
+
+/// One of the guests, in half of the units that have any.
+fn some_busy_guest(cast: Cast, random: &mut Random) -> Option<u8> {
+    let guests: Vec<u8> = (1..=cast.groups).filter(|&group| group != cast.owner).collect();
+    (!guests.is_empty() && random.chance(1, 2)).then(|| random.pick(&guests))
 }
 
 impl Plan {

@@ -13,26 +13,25 @@ use Rattle.layout.specs.declared.clock.Timestamp.{Timestamp}
 use Rattle.record.specs.declared.request.Request.{Request}
 use Rattle.rules.specs.Lists.{every, some}
 use Rattle.record.specs.Kind.{isRead, isWrite, sameWrite}
-use Rattle.rules.specs.Batch.{allReads, allSame, allSendersDiffer, unanimous}
+use Rattle.rules.specs.Batch.{allReads, allSame, allSendersDiffer, unanimous, firstOf}
+use Rattle.rules.specs.Replica.{stamped}
 use Rattle.rules.specs.declared.Pending.{Pending}
 use Rattle.question.proofs.Tests.{case}
-use Rattle.rules.specs.Replica.{inBatch}
-use Rattle.rules.specs.Batch.{firstOf}
 use Rattle.batch.specs.Head.{requestsAt}
 
-module _ (group : ℕ) (t : Timestamp) (p : Pending) (rest : List Pending) where
+module _ (t : Timestamp) (p : Pending) (rest : List Pending) where
   abbrev mine : Bool
-  mine = inBatch group t p
+  mine = stamped t (p .request)
 
   -- one more request, whether or not it is of the batch
   pub reads-step : (all : Bool)
-      → (all && (not mine || isRead (p .request))) && allReads (requestsAt group t rest) ≡ all && allReads (requestsAt group t (p ∷ rest))
+      → (all && (not mine || isRead (p .request))) && allReads (requestsAt t rest) ≡ all && allReads (requestsAt t (p ∷ rest))
   reads-step all =
       case mine
-      (λ e. rw e (and-assoc all (isRead (p .request)) (allReads (requestsAt group t rest))))
+      (λ e. rw e (and-assoc all (isRead (p .request)) (allReads (requestsAt t rest))))
       (λ e. rw (e, and-true all))
 
-  pub size-step : (size : ℕ) → size + boolByte mine + length (requestsAt group t rest) ≡ size + length (requestsAt group t (p ∷ rest))
+  pub size-step : (size : ℕ) → size + boolByte mine + length (requestsAt t rest) ≡ size + length (requestsAt t (p ∷ rest))
   size-step size = case mine (λ e. rw e (omega arith)) (λ e. rw e (omega arith))
 
 -- ── unanimity ──
@@ -61,20 +60,20 @@ module _ (first : Request) where
       let other = getD-set-other seen s (q .process) true false (λ i. eqb-false s (q .process) e (sym i)) in
       rw (e, other, seen-more seen s batch h) (sym (and-assoc (agrees seen q) rest (not there))))
 
-  module _ (group : ℕ) (t : Timestamp) (p : Pending) (rest : List Pending) (seen : List Bool) (room : p .request .process < length seen) where
+  module _ (t : Timestamp) (p : Pending) (rest : List Pending) (seen : List Bool) (room : p .request .process < length seen) where
     abbrev was : Bool
     was = getD seen (p .request .process) false
 
     -- one more request, whether or not it is of the batch: whether its sender was seen, and is from now on
-    pub agree-step : (same : Bool) {mine is : Bool} → mine ≡ inBatch group t p → is ≡ was || inBatch group t p
+    pub agree-step : (same : Bool) {mine is : Bool} → mine ≡ stamped t (p .request) → is ≡ was || stamped t (p .request)
         → (same && (not mine || ((isWrite (p .request) && sameWrite first (p .request)) && not was)))
-        && agree (set seen (p .request .process) is) (requestsAt group t rest)
-        ≡ same && agree seen (requestsAt group t (p ∷ rest))
+        && agree (set seen (p .request .process) is) (requestsAt t rest)
+        ≡ same && agree seen (requestsAt t (p ∷ rest))
     agree-step same m i =
-        let batch = requestsAt group t rest in
+        let batch = requestsAt t rest in
         let d = allSendersDiffer batch in
         let f = not (some (λ q. eqb (p .request .process) (q .process)) batch) in
-        case (inBatch group t p)
+        case (stamped t (p .request))
         (λ e. rw (i, m, e, or-true was, seen-more seen (p .request .process) batch room)
         (shuffle same (agrees seen (p .request)) (every (agrees seen) batch) f d))
         (λ e. rw (i, m, e, or-false was, set-getD seen (p .request .process) false, and-true same))

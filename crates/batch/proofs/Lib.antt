@@ -1,4 +1,3 @@
-pub mod Left
-pub mod Agree
 pub mod Compact
 pub mod Stable
+pub mod Agree

@@ -1,8 +1,7 @@
--- The head that the code finds, request by request, is that of the rules: its timestamp is the group's, and its first arrival is
--- late exactly where the group's batch is stable.
+-- The head that the code finds, request by request, is that of the rules: its timestamp is the queue's, and its first arrival is
+-- late exactly where the queue's batch is stable.
 use Prim.Native.Nat.{ℕ, _+_, min}
 use mathlib.Core.Path.{_≡_, refl, sym, ap, _∙_}
-use mathlib.Core.Logic.{_⊎_, inl, inr, ⊎-elim}
 use mathlib.Core.Bool.{Bool, true, false, _&&_, _||_, or-assoc, or-comm, or-false, and-or-distrib-left}
 use mathlib.Core.List.{List, [], _∷_}
 use native.Mathlib.Omega.{arith}
@@ -12,11 +11,11 @@ use Rattle.layout.specs.declared.clock.Timestamp.{Timestamp}
 use Rattle.layout.specs.declared.clock.LocalTime.{LocalTime}
 use Rattle.record.specs.declared.request.Request.{Request}
 use Rattle.rules.specs.Lists.{keep, some}
-use Rattle.rules.specs.Replica.{stamped, lowest, requestsOf, ofGroup, groupTimestamp, batchOf, earlier, earliest, isStable}
+use Rattle.rules.specs.Replica.{stamped, lowest, requestsOf, headTimestamp, batchOf, earlier, earliest, isStable}
 use Rattle.rules.specs.declared.Pending.{Pending}
 use Rattle.question.proofs.Tests.{case}
-use Rattle.laws.proofs.Least.{lowest-start, batchAt-group}
-use Rattle.batch.specs.Head.{join, headFrom, headIn, isLate, whereLate}
+use Rattle.laws.proofs.Least.{lowest-start}
+use Rattle.batch.specs.Head.{headFrom, headIn, isLate, whereLate}
 use Rattle.batch.specs.declared.pending.Head.{Head}
 use Rattle.batch.specs.declared.pending.Head.the-variants.{Nothing, At}
 
@@ -29,6 +28,9 @@ lowest-swap t u (r ∷ l) = omega (arith, lowest-swap t u l)
 some-keep : {A : Type 0} (p q : A → Bool) (l : List A) → some q (keep p l) ≡ some (λ x. p x && q x) l
 some-keep p q [] = refl
 some-keep p q (x ∷ l) = case (p x) (λ e. rw (e, some-keep p q l)) (λ e. rw (e, some-keep p q l))
+
+nothing-at : {t : Timestamp} {first : LocalTime} → Nothing ≡ At t first → ⊥
+nothing-at e = let z : _≡_ {A = ℕ} 0 1 = cc in omega arith
 
 module _ (delta : ℕ) (now : LocalTime) where
   abbrev late : LocalTime → Bool
@@ -112,59 +114,52 @@ module _ (delta : ℕ) (now : LocalTime) where
         ∙ rw (late-earlier first (p .arrival), here′, and-or-distrib-left here (late first) (late (p .arrival)))
         (or-assoc (here && late first) (here && late (p .arrival)) (someLate both l))) x
 
-    join-found : (f : Head → Head) → ((u : Timestamp) (x : LocalTime) → Joined u x l (f (At u x)))
-        → Joined t first (p ∷ l) (f (join (At t first) q (p .arrival)))
-    join-found f h = case (ltb (q .0) (t .0))
-        (λ a. rw a (sooner a (h q (p .arrival))))
-        (λ a. case (ltb (t .0) (q .0))
-        (λ b. rw (a, b) (later b (h t first)))
-        (λ b. rw (a, b) (same (omega (arith, ltb-false (q .0) (t .0) a, ltb-false (t .0) (q .0) b)) (h t (earlier first (p .arrival))))))
+  head-from : (t : Timestamp) (first : LocalTime) (l : List Pending) → Joined t first l (headFrom (At t first) l)
+  unfolding headFrom
+  head-from t first [] = record { first = first; is = refl; lateness = rw (eq-eqb (t .0) (t .0) refl) (sym (or-false (late first))) }
+  head-from t first (p ∷ l) =
+      let q = p .request .timestamp in
+      case (ltb (q .0) (t .0))
+      (λ a. rw a (sooner t first p l a (head-from q (p .arrival) l)))
+      (λ a. case (ltb (t .0) (q .0))
+      (λ b. rw (a, b) (later t first p l b (head-from t first l)))
+      (λ b.
+      let i : q .0 ≡ t .0 = omega (arith, ltb-false (q .0) (t .0) a, ltb-false (t .0) (q .0) b) in
+      rw (a, b) (same t first p l i (head-from t (earlier first (p .arrival)) l))))
 
-  module _ (group : ℕ) where
-    abbrev mine : List Pending → List Pending
-    mine l = keep (ofGroup group) l
+  -- a queue that has a request has the rules' head
+  head-is : (p : Pending) (l : List Pending) → Found (headIn (p ∷ l)) (headTimestamp (p ∷ l)) (isStable delta now (batchOf (p ∷ l)))
+  unfolding headFrom
+  head-is p l =
+      let with-t : Pending → Bool = λ q. stamped (headTimestamp (p ∷ l)) (q .request) in
+      let stable = stable-late (batchOf (p ∷ l)) ∙ some-keep with-t (λ q. late (q .arrival)) (p ∷ l) in
+      found-as refl (sym stable) (head-from (p .request .timestamp) (p .arrival) l)
 
-    head-from : (t : Timestamp) (first : LocalTime) (l : List Pending) → Joined t first (mine l) (headFrom group (At t first) l)
-    unfolding headFrom
-    head-from t first [] = record { first = first; is = refl; lateness = rw (eq-eqb (t .0) (t .0) refl) (sym (or-false (late first))) }
-    head-from t first (p ∷ l) = case (ofGroup group p)
-        (λ e. rw e (join-found t first p (mine l) (λ h. headFrom group h l) (λ u x. head-from u x l)))
-        (λ e. rw e (head-from t first l))
+  -- a head that is found late is the queue's, and the batch is stable
+  pub late-yes : (l : List Pending) {t : Timestamp} {first : LocalTime} → whereLate delta now (headIn l) ≡ At t first
+      → (t ≡ headTimestamp l) × (isStable delta now (batchOf l) ≡ true)
+  unfolding headFrom
+  late-yes [] e = absurd (nothing-at e)
+  late-yes (p ∷ l) {t} {first} e =
+      let f = head-is p l in
+      case (isStable delta now (batchOf (p ∷ l)))
+      (λ b. let z : At (headTimestamp (p ∷ l)) (f .first) ≡ At t first = rw (f .is, f .lateness, b) at e in (cc, b))
+      (λ b. let z : Nothing ≡ At t first = rw (f .is, f .lateness, b) at e in absurd (nothing-at z))
 
-    -- a group with no pending request has no head; any other has the rules' head
-    head-is : (l : List Pending)
-        → ((headIn group l ≡ Nothing) × (mine l ≡ [])) ⊎ Found (headIn group l) (groupTimestamp group l) (isStable delta now (batchOf group l))
-    unfolding headFrom
-    head-is [] = inl (refl, refl)
-    head-is (p ∷ l) = case (ofGroup group p)
-        (λ e.
-        let mineToo = p ∷ mine l in
-        let t = lowest (p .request .timestamp) (requestsOf (mine l)) in
-        let with-t : Pending → Bool = λ q. stamped t (q .request) in
-        let stable = stable-late (keep with-t mineToo) ∙ some-keep with-t (λ q. late (q .arrival)) mineToo in
-        rw (batchAt-group group (groupTimestamp group (p ∷ l)) (p ∷ l), e) (inr (found-as refl (sym stable) (head-from (p .request .timestamp) (p .arrival) l))))
-        (λ e. rw e (head-is l))
+  -- where none is found late, the batch is not stable
+  pub late-no : (l : List Pending) → whereLate delta now (headIn l) ≡ Nothing → isStable delta now (batchOf l) ≡ false
+  late-no [] e = refl
+  late-no (p ∷ l) e =
+      let f = head-is p l in
+      case (isStable delta now (batchOf (p ∷ l)))
+      (λ b. let z : At (headTimestamp (p ∷ l)) (f .first) ≡ Nothing = rw (f .is, f .lateness, b) at e in absurd (nothing-at (sym z)))
+      (λ b. b)
 
-  module _ (group : ℕ) (l : List Pending) where
-    -- a head that is found late is the group's, and the batch is stable
-    pub late-yes : {t : Timestamp} {first : LocalTime} → whereLate delta now (headIn group l) ≡ At t first
-        → (t ≡ groupTimestamp group l) × (isStable delta now (batchOf group l) ≡ true)
-    late-yes {t} {first} e = ⊎-elim
-        (λ n. let z : Nothing ≡ At t first = rw (n .0) at e in let z : _≡_ {A = ℕ} 0 1 = cc in absurd (omega arith))
-        (λ f. case (isStable delta now (batchOf group l))
-        (λ b.
-        let z : At (groupTimestamp group l) (f .first) ≡ At t first = rw (f .is, f .lateness, b) at e in
-        (cc, b))
-        (λ b. let z : Nothing ≡ At t first = rw (f .is, f .lateness, b) at e in let z : _≡_ {A = ℕ} 0 1 = cc in absurd (omega arith)))
-        (head-is group l)
+  -- a batch is stable where the first arrival of its head is late, and there is no stable batch where there is no head
+  pub head-late : (l : List Pending) {t : Timestamp} {first : LocalTime} → headIn l ≡ At t first → isStable delta now (batchOf l) ≡ late first
+  head-late l {t} {first} e = case (late first)
+      (λ b. late-yes l {t = t} {first = first} (rw (e, b)) .1 ∙ sym b)
+      (λ b. late-no l (rw (e, b)) ∙ sym b)
 
-    -- where none is found late, the batch is not stable
-    pub late-no : whereLate delta now (headIn group l) ≡ Nothing → isStable delta now (batchOf group l) ≡ false
-    late-no e = ⊎-elim
-        (λ n. rw (batchAt-group group (groupTimestamp group l) l, n .1))
-        (λ f. case (isStable delta now (batchOf group l))
-        (λ b.
-        let z : At (groupTimestamp group l) (f .first) ≡ Nothing = rw (f .is, f .lateness, b) at e in
-        let z : _≡_ {A = ℕ} 0 1 = cc in absurd (omega arith))
-        (λ b. b))
-        (head-is group l)
+  pub head-none : (l : List Pending) → headIn l ≡ Nothing → isStable delta now (batchOf l) ≡ false
+  head-none l e = late-no l (rw e)

@@ -1,8 +1,8 @@
--- The head of a group as the code finds it, request by request: its least timestamp and first arrival.
+-- The head of a queue as the code finds it, request by request: its least timestamp and first arrival.
 use Prim.Native.Nat.{ℕ, _+_}
 use mathlib.Core.Bool.{Bool, cond}
 use mathlib.Core.List.{List, [], _∷_}
-use lib.Dec.{eqb, ltb}
+use lib.Dec.{ltb}
 use Rattle.layout.specs.declared.clock.Timestamp.{Timestamp}
 use Rattle.layout.specs.declared.clock.LocalTime.{LocalTime}
 use Rattle.record.specs.declared.request.Request.{Request}
@@ -16,16 +16,16 @@ join Nothing t arrival = At t arrival
 join (At least first) t arrival =
     cond (ltb (t .0) (least .0)) (At t arrival) (cond (ltb (least .0) (t .0)) (At least first) (At least (earlier first arrival)))
 
-abbrev pub meet : ℕ → Head → Pending → Head
-meet group h p = cond (eqb (p .request .group) group) (join h (p .request .timestamp) (p .arrival)) h
+abbrev pub meet : Head → Pending → Head
+meet h p = join h (p .request .timestamp) (p .arrival)
 
 -- a head carried through a list, from its front
-unfoldable pub headFrom : ℕ → Head → List Pending → Head
-headFrom group h [] = h
-headFrom group h (p ∷ pending) = headFrom group (meet group h p) pending
+unfoldable pub headFrom : Head → List Pending → Head
+headFrom h [] = h
+headFrom h (p ∷ queue) = headFrom (meet h p) queue
 
-abbrev pub headIn : ℕ → List Pending → Head
-headIn group pending = headFrom group Nothing pending
+abbrev pub headIn : List Pending → Head
+headIn queue = headFrom Nothing queue
 
 -- first + δ < at
 abbrev pub isLate : LocalTime → ℕ → LocalTime → Bool
@@ -36,7 +36,7 @@ abbrev pub whereLate : ℕ → LocalTime → Head → Head
 whereLate delta at Nothing = Nothing
 whereLate delta at (At t first) = cond (isLate first delta at) (At t first) Nothing
 
--- ── the requests of a group with a timestamp ──
+-- ── the requests of a queue with a timestamp ──
 
-abbrev pub requestsAt : ℕ → Timestamp → List Pending → List Request
-requestsAt group t pending = requestsOf (batchAt group t pending)
+abbrev pub requestsAt : Timestamp → List Pending → List Request
+requestsAt t queue = requestsOf (batchAt t queue)

@@ -1,6 +1,7 @@
 // Cases of a replica, kept from line to line. make: k, N, owner, delta, number. deliver: the local
 // time, then the bytes. step: the local time, the output's length; the output is full of 170 before.
-// After each the variables 0 and 4, the writes, the pending requests and the last local time are shown.
+// After each the variables 0 and 4, the writes, how many requests of each group are pending, and the last
+// local time are shown.
 use crate::records::bytes_from;
 use crate::script::Scan;
 use limits::RECORD;
@@ -15,7 +16,10 @@ fn show_replica(r: Replica) {
     crate::show::number(r.variables[0] as u64);
     crate::show::number(r.variables[4] as u64);
     crate::show::number(r.writes);
-    crate::show::number(r.queue.count as u64);
+    crate::show::number(r.counts[0] as u64);
+    crate::show::number(r.counts[1] as u64);
+    crate::show::number(r.counts[2] as u64);
+    crate::show::number(r.counts[3] as u64);
     crate::show::number(r.last.0);
 }
 
@@ -37,15 +41,16 @@ pub(crate) fn make(s: Scan) -> Replica {
     m.replica
 }
 
-// A replica that no call makes: k, N, owner, delta, number, the count and the last local time set.
+// A replica that no call makes: k, N, owner, delta, number, the four counts and the last local time set.
 pub(crate) fn spoil(s: Scan, old: Replica) -> Replica {
     let mut r = old;
     r.settings = settings_from(s);
     r.number = s.byte(4);
-    let mut queue = old.queue;
-    queue.count = s.number(5) as usize;
-    r.queue = queue;
-    let last = LocalTime(s.number(6));
+    r.counts[0] = s.number(5) as usize;
+    r.counts[1] = s.number(6) as usize;
+    r.counts[2] = s.number(7) as usize;
+    r.counts[3] = s.number(8) as usize;
+    let last = LocalTime(s.number(9));
     r.last = last;
     r
 }

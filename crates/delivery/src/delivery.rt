@@ -1,27 +1,30 @@
 // Delivery of a request.
 ghost use mathlib.Core.Path.{_≡_};
-ghost use Prim.Native.Nat.{ℕ, _<_};
-ghost use Rattle.limits.specs.Limits.{places};
+ghost use Prim.Native.Nat.{ℕ, _≤_, _<_};
+ghost use Rattle.limits.specs.Limits.{maxGroups, places};
 ghost use Rattle.question.specs.Question.{given, refused, worked, ask, bind, next, after, verdict, outcome};
 ghost use Rattle.record.specs.Record.{requestAnswer, readRequest};
 ghost use Rattle.rules.specs.Replica.{placeQuestions, arrive, deliver};
-ghost use Rattle.batch.specs.State.{stateOf};
-use batch::Replica;
+ghost use Rattle.state.specs.State.{stateOf};
+ghost use Rattle.queue.specs.Queue.{countOf};
 use checks::check_time;
 use limits::PLACES;
+use limits::QUEUES;
 use question::Outcome;
+use queue::count_of;
 use record::LocalTime;
 use record::Request;
 use record::RequestRead;
 use rules::Pending;
 use rules::Settings;
+use state::Replica;
 
 pub struct Delivered {
     pub outcome: Outcome,
     pub replica: Replica,
 }
 
-// Questions 12, 13 and 14. `count` requests are pending.
+// Questions 12, 13 and 14. The sender's group has `count` requests pending.
 fn check_place(last: LocalTime, count: usize, at: LocalTime) -> Outcome
     ensures { λ o. ⌜ outcome o ≡ ask (placeQuestions last count at) (given worked) ⌝ }
 {
@@ -39,31 +42,52 @@ fn unless_refused(o: Outcome, request: Request) -> RequestRead
 }
 
 // The request that a delivery brings, or the refusal.
-fn admit(u: Settings, last: LocalTime, count: usize, bytes: &[u8], at: LocalTime) -> RequestRead
-    ensures { λ a. ⌜ requestAnswer a ≡ bind (readRequest (u .k) (u .groups) (now (bytes .entry))) (λ q. ask (placeQuestions last count at) (given q)) ⌝ }
+fn admit(
+    u: Settings,
+    last: LocalTime,
+    counts: [usize; QUEUES],
+    bytes: &[u8],
+    at: LocalTime,
+) -> RequestRead
+    ensures { λ a. ⌜ requestAnswer a ≡ bind (readRequest (u .k) (u .groups) (now (bytes .entry))) (λ q. ask (placeQuestions last (countOf counts (q .group)) at) (given q)) ⌝ }
 {
     match record::read_request(u.k, u.groups, bytes) {
-        RequestRead::Accepted(request) => unless_refused(check_place(last, count, at), request),
+        RequestRead::Accepted(request) => {
+            let count = count_of(counts, request.group);
+            unless_refused(check_place(last, count, at), request)
+        }
         RequestRead::Refused(number) => RequestRead::Refused(number),
     }
 }
 
-// The replica with one more pending request.
+// The replica with one more pending request, the last of its group.
 fn add_pending(r: Replica, request: Request, at: LocalTime) -> Replica
-    requires { ⌜ r .queue .count < places ⌝ }
+    requires { ⌜ (1 ≤ request .group) × (request .group ≤ maxGroups) × (countOf (r .counts) (request .group) < places) ⌝ }
     ensures { λ s. ⌜ stateOf s ≡ arrive (stateOf r) request at ⌝ }
 {
-    let mut queue = r.queue;
-    let i = queue.count;
-    queue.pending[i] = Pending {
+    let settings = r.settings;
+    let variables = r.variables;
+    let mut pending = r.pending;
+    let mut counts = r.counts;
+    let group = request.group;
+    let i = group as usize - 1;
+    let n = counts[i];
+    let place = PLACES * i + n;
+    let added = Pending {
         request,
         arrival: at,
     };
-    queue.count = i + 1;
-    let mut next = r;
-    next.queue = queue;
-    next.last = at;
-    next
+    pending[place] = added;
+    counts[i] = n + 1;
+    Replica {
+        settings,
+        number: r.number,
+        last: at,
+        variables,
+        pending,
+        counts,
+        writes: r.writes,
+    }
 }
 
 pub fn deliver(r: Replica, bytes: &[u8], at: LocalTime) -> Delivered
@@ -71,7 +95,8 @@ pub fn deliver(r: Replica, bytes: &[u8], at: LocalTime) -> Delivered
     ensures state { λ d. ⌜ stateOf (d .replica) ≡ after (stateOf r) (deliver (stateOf r) (now (bytes .entry)) at) ⌝ }
     ensures kept { λ d. ⌜ ((q : ℕ) → outcome (d .outcome) ≡ refused q → d .replica ≡ r) ⌝ }
 {
-    match admit(r.settings, r.last, r.queue.count, bytes, at) {
+    let counts = r.counts;
+    match admit(r.settings, r.last, counts, bytes, at) {
         RequestRead::Accepted(request) => Delivered {
             outcome: Outcome::Done,
             replica: add_pending(r, request, at),

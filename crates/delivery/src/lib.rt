@@ -1,10 +1,5 @@
-// A replica from new, and the delivery of a request to it.
-//
-// Read on in this order: `making`, `delivery`. What is made: specs/Made.antt.
+// The delivery of a request to a replica.
 mod delivery;
-mod making;
 
 pub use delivery::Delivered;
 pub use delivery::deliver;
-pub use making::Made;
-pub use making::make;

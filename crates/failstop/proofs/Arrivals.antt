@@ -6,21 +6,21 @@ use mathlib.Core.Logic.{_⊎_, inl, inr, ⊎-elim}
 use mathlib.Core.Bool.{false}
 use mathlib.Core.List.{List, [], _∷_, _++_, List·Memᴰ, List·Memᴰ·head, List·Memᴰ·tail, List·Memᴰ·cases-cons, List·Memᴰ·not-nil, List·Memᴰ·append-cases, List·Memᴰ·eq-of-singleton, Memᴰ·append-left, Memᴰ·append-right}
 use native.Mathlib.Omega.{arith}
-use borrow.Author.Tests.{eqb-true, eqb-false}
+use lib.Dec.{eqb}
+use borrow.Author.Tests.{eqb-true, eqb-false, eq-eqb}
 use Rattle.record.specs.declared.request.Request.{Request}
 use Rattle.rules.specs.declared.Settings.{Settings}
-use Rattle.rules.specs.Replica.{State, stamped, ofGroup, atTime}
+use Rattle.rules.specs.Replica.{State, stamped, atTime}
 use Rattle.rules.specs.Run.{Call, call, run, arrivalOf, arrivals}
 use Rattle.failstop.specs.Suppose.{firstArrival, ArrivalRule}
 use Rattle.rules.specs.declared.Pending.{Pending}
 use Rattle.question.proofs.Tests.{case}
-use Rattle.laws.proofs.Lists.{keep-in, keep-append}
+use Rattle.laws.proofs.Queues.{arrive-in}
 use Rattle.laws.proofs.Keeps.{visits-keep}
 use Rattle.laws.proofs.Accepted.{Made, Proper}
 use Rattle.laws.proofs.Records.{AllSendable}
 use Rattle.laws.proofs.Sound.{Sound, visits-soundly}
-use Rattle.laws.proofs.Calls.{AllLent, Act, nothing, arrives, steps, call-act, call-sound}
-use Rattle.failstop.proofs.Simulation.{mine, mine-keeps}
+use Rattle.laws.proofs.Calls.{AllLent, Act, nothing, arrives, steps, at-sound, call-act, call-sound}
 
 -- ── one call ──
 
@@ -36,7 +36,7 @@ pub record Between (u : Settings) (s : State) (c : Call) : Type 0 where
   -- what arrives is accepted last, and is the owner's
   pub arrival : (p : Pending) → List·Memᴰ p (arrivalOf s c) → (p .arrival .0 ≡ call s c .state .last .0) × Owned u (p .request)
   -- what is pending after it was pending or has arrived
-  pub pending : (p : Pending) → List·Memᴰ p (mine u (call s c .state .pending)) → List·Memᴰ p (mine u (s .pending)) ⊎ List·Memᴰ p (arrivalOf s c)
+  pub pending : (p : Pending) → List·Memᴰ p (call s c .state .pending (u .owner)) → List·Memᴰ p (s .pending (u .owner)) ⊎ List·Memᴰ p (arrivalOf s c)
 
 between : {u : Settings} {s : State} {c : Call} → Act u s c → Between u s c
 between {u} {s} {c} (nothing e a) = record {
@@ -46,12 +46,14 @@ between {u} {s} {c} (nothing e a) = record {
 }
 between {u} {s} {c} (arrives r now proper late room e a) = record {
   last = rw e late;
-  arrival = λ p i.
-      let k = keep-in (ofGroup (u .owner)) (new ∷ []) (rw a at i) in
-      let same = List·Memᴰ·eq-of-singleton (k .0) in
-      (rw (e, same), record { owner = eqb-true (p .request .group) (u .owner) (k .1); proper = rw same proper });
-  pending = λ p i.
-      rw a (List·Memᴰ·append-cases (mine u (s .pending)) (rw (e, keep-append (ofGroup (u .owner)) (s .pending) (new ∷ [])) at i));
+  arrival = λ p i. case (eqb (r .group) (u .owner))
+      (λ t.
+      let same : p ≡ new = List·Memᴰ·eq-of-singleton (rw (a, t) at i) in
+      (rw (e, same), record { owner = rw same (eqb-true (r .group) (u .owner) t); proper = rw same proper }))
+      (λ t. absurd (List·Memᴰ·not-nil (rw (a, t) at i)));
+  pending = λ p i. ⊎-elim inl
+      (λ j. inr (rw (a, eq-eqb (r .group) (u .owner) (sym (j .1))) (List·Memᴰ·head (j .0))))
+      (arrive-in s r now (u .owner) p (rw e at i));
 }
   where
     new : Pending
@@ -59,7 +61,7 @@ between {u} {s} {c} (arrives r now proper late room e a) = record {
 between {u} {s} {c} (steps now late e a) = record {
   last = rw (e, visits-keep (u .groups) now (atTime now s) .last) late;
   arrival = λ p i. absurd (List·Memᴰ·not-nil (rw a at i));
-  pending = λ p i. inl (mine-keeps u (visits-keep (u .groups) now (atTime now s)) p (rw e at i));
+  pending = λ p i. inl (visits-keep (u .groups) now (atTime now s) .pending (u .owner) p (rw e at i));
 }
 
 -- ── the arrival rule ──
@@ -107,10 +109,7 @@ module _ (u : Settings) (me : ℕ) (ok : Made u me) where
       one : Act u s c → AllSendable (u .k) (u .groups) (call s c .sent)
       one (nothing e a) = rw e (λ m i. absurd (List·Memᴰ·not-nil i))
       one (arrives r now proper late room e a) = rw e (λ m i. absurd (List·Memᴰ·not-nil i))
-      one (steps now late e a) =
-          let h = g .sound in
-          rw e (visits-soundly u me ok (u .groups) now (atTime now s)
-          (record { settings = h .settings; number = h .number; pending = h .pending; few = h .few; store = h .store }) .1)
+      one (steps now late e a) = rw e (visits-soundly u me ok (u .groups) now (atTime now s) (at-sound u me ok s now (g .sound)) .1)
 
   -- ── its arrivals ──
 
@@ -118,8 +117,8 @@ module _ (u : Settings) (me : ℕ) (ok : Made u me) where
   call-between g = between (first-act g)
 
   -- what is pending at the end was pending or has arrived
-  pub run-pending : (calls : List Call) (s : State) → Going u me s calls → (p : Pending) → List·Memᴰ p (mine u (run s calls .state .pending))
-      → List·Memᴰ p (mine u (s .pending)) ⊎ List·Memᴰ p (arrivals s calls)
+  pub run-pending : (calls : List Call) (s : State) → Going u me s calls → (p : Pending) → List·Memᴰ p (run s calls .state .pending (u .owner))
+      → List·Memᴰ p (s .pending (u .owner)) ⊎ List·Memᴰ p (arrivals s calls)
   unfolding run arrivals
   run-pending [] s g p i = inl i
   run-pending (c ∷ calls) s g p i = ⊎-elim

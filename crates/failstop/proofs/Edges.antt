@@ -16,7 +16,7 @@ use Rattle.layout.specs.Layout.{fieldsOf, bytesOf}
 use Rattle.record.specs.Record.{fieldQuestions, readFields, writeFields}
 use Rattle.record.specs.declared.message.Message.{Message}
 use Rattle.rules.specs.Batch.{valueOf, failed, verdictOf, replyWith, handle}
-use Rattle.rules.specs.Replica.{make, admit, deliver, handleBatch, visit, visits, put, putAll, stepped, step}
+use Rattle.rules.specs.Replica.{make, admit, deliver, handleBatch, visit, visitGroup, visits, put, putAll, stepped, step}
 use Rattle.rules.specs.Run.{messagesIn, call, run, arrivals, stepTimes}
 use Rattle.rules.specs.Machine.{react, reactAll, machine}
 use Rattle.rules.specs.Vote.{queryOf, haltsFor, vote, haltCount}
@@ -51,7 +51,7 @@ abbrev lateSent : ℕ → List Message
 lateSent i = replyWith 7 i lateRead ∷ []
 
 late-computed : (i : ℕ) → Correct five lying i → Computed five lateCalls lateSent lateBag i
-unfolding ask unitQuestions number digits fieldsOf bytesOf fieldQuestions readFields writeFields verdictOf handle make admit deliver handleBatch visit visits put putAll stepped step messagesIn call run arrivals stepTimes
+unfolding ask unitQuestions number digits fieldsOf bytesOf fieldQuestions readFields writeFields verdictOf handle make admit deliver handleBatch visit visitGroup visits put putAll stepped step messagesIn call run arrivals stepTimes
 late-computed =
     let first = Permᴰ·symm (Permᴰ·middle lateRead (wrote 1 1 10 7 ∷ wrote 1 2 10 7 ∷ wrote 1 3 10 7 ∷ []) []) in
     last-three (Computed five lateCalls lateSent lateBag)
@@ -118,7 +118,7 @@ abbrev splitSent : ℕ → List Message
 splitSent i = stopped i 1 ∷ stopped i 2 ∷ stopped i 3 ∷ []
 
 split-computed : (i : ℕ) → Correct five lying i → Computed five splitCalls splitSent splitBag i
-unfolding ask unitQuestions number digits fieldsOf bytesOf fieldQuestions readFields writeFields verdictOf handle make admit deliver handleBatch visit visits put putAll stepped step messagesIn call run arrivals stepTimes
+unfolding ask unitQuestions number digits fieldsOf bytesOf fieldQuestions readFields writeFields verdictOf handle make admit deliver handleBatch visit visitGroup visits put putAll stepped step messagesIn call run arrivals stepTimes
 split-computed =
     let first = Permᴰ·symm (Permᴰ·middle (wrote 1 3 10 8) (wrote 1 1 10 7 ∷ wrote 1 2 10 7 ∷ []) []) in
     last-three (Computed five splitCalls splitSent splitBag)

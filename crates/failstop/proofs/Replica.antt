@@ -17,7 +17,6 @@ use Rattle.laws.proofs.Machine.{machine-from-new, machine-none}
 use Rattle.laws.proofs.Accepted.{Made}
 use Rattle.failstop.specs.Demand3.{toGroup}
 use Rattle.laws.proofs.Verdict.{signed}
-use Rattle.failstop.proofs.Simulation.{mine}
 use Rattle.failstop.proofs.Arrivals.{Going, run-pending, arrivals-loose}
 use Rattle.failstop.proofs.Runs.{Underway, run-matched}
 use Rattle.failstop.proofs.Closing.{run-empty}
@@ -35,7 +34,7 @@ module _ (u : Settings) (me : ℕ) (ok : Made u me) (calls : List Call) (going :
   start : Underway u me all new calls
   start = record { going = going; pending = λ p i. absurd (List·Memᴰ·not-nil i); coming = λ p i. i }
 
-  nothing-left : Closed (u .delta) (account u me calls) → mine u (done .state .pending) ≡ []
+  nothing-left : Closed (u .delta) (account u me calls) → done .state .pending (u .owner) ≡ []
   nothing-left (inl e) = run-empty u me ok all calls new start e
   nothing-left (inr e) = no-member _ (λ p i. ⊎-elim
       List·Memᴰ·not-nil

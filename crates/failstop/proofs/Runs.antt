@@ -5,27 +5,27 @@ use mathlib.Core.Path.{_≡_, refl, _∙_, ap}
 use mathlib.Core.Logic.{⊎-elim}
 use mathlib.Core.List.{List, [], _∷_, _++_, List·Memᴰ, Memᴰ·append-left, Memᴰ·append-right, append-assoc}
 use native.Mathlib.Omega.{arith}
-use lib.Dec.{leb}
+use lib.Dec.{eqb, leb}
 use borrow.Author.Tests.{leb-true, leb-false}
 use Rattle.layout.specs.declared.clock.LocalTime.{LocalTime}
 use Rattle.rules.specs.Batch.{Effect}
 use Rattle.rules.specs.declared.Settings.{Settings}
-use Rattle.rules.specs.Replica.{State, ofGroup, visits, atTime}
+use Rattle.rules.specs.Replica.{State, visits, atTime}
 use Rattle.rules.specs.Run.{Call, call, run, arrivalOf, arrivals}
 use Rattle.rules.specs.declared.Pending.{Pending}
 use Rattle.question.proofs.Tests.{case}
-use Rattle.laws.proofs.Lists.{keep-append}
+use Rattle.laws.proofs.Queues.{arrive-mine, arrive-other}
 use Rattle.laws.proofs.Keeps.{visits-keep}
 use Rattle.laws.proofs.Accepted.{Made}
 use Rattle.laws.proofs.Calls.{Act, nothing, arrives, steps}
 use Rattle.failstop.specs.Demand3.{toGroup}
-use Rattle.failstop.proofs.Simulation.{ahead, ahead-then, mine, Apart, expected, visits-simulate}
+use Rattle.failstop.proofs.Simulation.{ahead, ahead-then, Apart, expected, visits-simulate}
 use Rattle.failstop.proofs.Arrivals.{Going, first-act, going-next, call-between, LooseRule, arrivals-later}
 
 -- where a run stands: all that is pending or still to arrive is among the arrivals of the whole run
 pub record Underway (u : Settings) (me : ℕ) (all : List Pending) (s : State) (calls : List Call) : Type 0 where
   pub going : Going u me s calls
-  pub pending : (p : Pending) → List·Memᴰ p (mine u (s .pending)) → List·Memᴰ p all
+  pub pending : (p : Pending) → List·Memᴰ p (s .pending (u .owner)) → List·Memᴰ p all
   pub coming : (p : Pending) → List·Memᴰ p (arrivals s calls) → List·Memᴰ p all
 
 module _ (u : Settings) (me : ℕ) (ok : Made u me) (all : List Pending) where
@@ -54,24 +54,27 @@ module _ (u : Settings) (me : ℕ) (ok : Made u me) (all : List Pending) where
   CallMatched s c coming = expected u me (arrivalOf s c ++ coming) s ≡ ahead (toGroup (u .owner) (call s c .sent)) (expected u me coming (call s c .state))
 
   call-matched : (s : State) (c : Call) (calls : List Call) (coming : List Pending) → Going u me s (c ∷ calls)
-      → ((now : LocalTime) → call s c ≡ visits (u .groups) now (atTime now s) → Apart u now coming (s .pending)) → CallMatched s c coming
+      → ((now : LocalTime) → call s c ≡ visits (u .groups) now (atTime now s) → Apart u now coming (s .pending (u .owner))) → CallMatched s c coming
   call-matched s c calls coming g apart = go (first-act u me ok g)
     where
       go : Act u s c → CallMatched s c coming
       go (nothing e a) = rw (e, a)
       go (arrives r now proper late room e a) =
           let new : List Pending = record { request = r; arrival = now } ∷ [] in
-          rw (e, a, keep-append (ofGroup (u .owner)) (s .pending) new, ← append-assoc (mine u (s .pending)) (mine u new) coming)
+          case (eqb (r .group) (u .owner))
+          (λ t. rw (e, a, t, arrive-mine s r now (u .owner) t, ← append-assoc (s .pending (u .owner)) new coming))
+          (λ t. rw (e, a, t, arrive-other s r now (u .owner) t))
       go (steps now late e a) =
+          let h = g .sound in
           rw (e, a) (visits-simulate u me now coming (u .groups) (atTime now s)
-          (record { settings = g .sound .settings; number = g .sound .number; apart = apart now e }) .1)
+          (record { settings = h .settings; number = h .number; housed = h .housed; apart = apart now e }) .1)
 
   -- ── a run ──
 
   module _ (rule : LooseRule (u .delta) all) where
     -- none of what is still to come belongs before what was stable in the step
     step-apart : (s : State) (c : Call) (calls : List Call) → Underway u me all s (c ∷ calls)
-        → (now : LocalTime) → call s c ≡ visits (u .groups) now (atTime now s) → Apart u now (arrivals (call s c .state) calls) (s .pending)
+        → (now : LocalTime) → call s c ≡ visits (u .groups) now (atTime now s) → Apart u now (arrivals (call s c .state) calls) (s .pending (u .owner))
     step-apart s c calls w now e p i old q j = case (leb (q .request .timestamp .0) (p .request .timestamp .0))
         (λ t.
         let soon = rule p q (w .pending p i) (underway-next s c calls w .coming q j) (leb-true (q .request .timestamp .0) (p .request .timestamp .0) t) in

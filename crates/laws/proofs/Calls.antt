@@ -3,23 +3,21 @@
 use Prim.Native.Nat.{ℕ, _*_, _≤_, _<_}
 use mathlib.Core.Path.{_≡_, refl, sym, _∙_, ap, subst}
 use mathlib.Core.Logic.{⊎-elim}
-use mathlib.Core.List.{List, [], _∷_, _++_, List·Memᴰ, List·Memᴰ·head, List·Memᴰ·tail, List·Memᴰ·append-cases, List·Memᴰ·eq-of-singleton}
+use mathlib.Core.List.{List, [], _∷_, _++_, List·Memᴰ, List·Memᴰ·head, List·Memᴰ·tail}
 use native.Mathlib.Omega.{arith}
 use lib.ListN.{length, drop, length-append}
 use Rattle.limits.specs.Limits.{places, recordSize}
-use Rattle.question.specs.Question.{Answer, given, refused, after, mapAnswer, unitQuestions}
+use Rattle.question.specs.Question.{Answer, given, refused, after, mapAnswer}
 use Rattle.layout.specs.Number.{Bytes}
 use Rattle.layout.specs.declared.clock.LocalTime.{LocalTime}
 use Rattle.record.specs.declared.request.Request.{Request}
-use Rattle.record.specs.declared.message.Message.{Message}
-use Rattle.question.proofs.Questions.{AllYes}
-use Rattle.rules.specs.Lists.{keep}
 use Rattle.rules.specs.Batch.{Effect, still}
 use Rattle.rules.specs.declared.Settings.{Settings}
-use Rattle.rules.specs.Replica.{State, Stepped, admit, arrive, deliver, ofGroup, visits, atTime, Written, written, putAll, stepped, step}
-use Rattle.rules.specs.Run.{Call, delivery, turn, messagesIn, sentBy, call, run, arrivalOf}
+use Rattle.rules.specs.Replica.{State, Stepped, admit, arrive, deliver, visits, atTime, Written, written, putAll, stepped, step}
+use Rattle.rules.specs.Run.{Call, delivery, turn, messagesIn, sentBy, call, run, arrived, arrivalOf}
 use Rattle.rules.specs.declared.Pending.{Pending}
 use Rattle.laws.specs.Output.{recordBytes, HoldsRecords}
+use Rattle.laws.proofs.Queues.{replace-all, arrive-in, arrive-housed}
 use Rattle.laws.proofs.Step.{step-accepted, step-keeps, step-at-most-67}
 use Rattle.laws.proofs.Records.{written-records, read-records}
 use Rattle.laws.proofs.Accepted.{Made, Proper, read-proper, admit-admitted, step-late, step-room}
@@ -54,13 +52,15 @@ call-settings s (turn now output) = go (step s now output) refl
 -- a call that is refused, a delivery that is accepted, a step that is
 pub data Act (u : Settings) (s : State) (c : Call) : Type 0 where
   nothing : call s c ≡ still s → arrivalOf s c ≡ [] → Act u s c
-  arrives : (r : Request) (now : LocalTime) → Proper (u .k) (u .groups) r → s .last .0 ≤ now .0 → length (s .pending) < places
-      → call s c ≡ still (arrive s r now) → arrivalOf s c ≡ keep (ofGroup (u .owner)) (record { request = r; arrival = now } ∷ []) → Act u s c
+  arrives : (r : Request) (now : LocalTime) → Proper (u .k) (u .groups) r → s .last .0 ≤ now .0 → length (s .pending (r .group)) < places
+      → call s c ≡ still (arrive s r now) → arrivalOf s c ≡ arrived (u .owner) now (given r) → Act u s c
   steps : (now : LocalTime) → s .last .0 ≤ now .0 → call s c ≡ visits (u .groups) now (atTime now s) → arrivalOf s c ≡ [] → Act u s c
 
 module _ (u : Settings) (me : ℕ) (ok : Made u me) where
-  at-sound : (s : State) (now : LocalTime) → Sound u me s → Sound u me (atTime now s)
-  at-sound s now h = record { settings = h .settings; number = h .number; pending = h .pending; few = h .few; store = h .store }
+  -- the time makes no difference
+  pub at-sound : (s : State) (now : LocalTime) → Sound u me s → Sound u me (atTime now s)
+  at-sound s now h =
+      record { settings = h .settings; number = h .number; pending = h .pending; housed = h .housed; few = h .few; store = h .store }
 
   -- what an accepted step wrote: its answer counts what its visits send, and the records of that stand before the old bytes
   pub step-wrote : (s : State) (now : LocalTime) (output : List ℕ) {d : Stepped} → Sound u me s → step s now output ≡ given d
@@ -71,7 +71,7 @@ module _ (u : Settings) (me : ℕ) (ok : Made u me) where
       let n = length (done .sent) in
       let groups : visits (s .settings .groups) now (atTime now s) ≡ done = ap (λ (v : Settings). visits (v .groups) now (atTime now s)) (h .settings) in
       let most : n ≤ 67 =
-      rw groups at (step-at-most-67 s now (rw (h .settings) (ok .k)) (h .few) (omega (arith, h .store .variables))) in
+      rw groups at (step-at-most-67 s now (rw (h .settings) (ok .k)) (rw (h .settings) (ok .groups)) (h .few) (omega (arith, h .store .variables))) in
       let sendable = visits-soundly u me ok (u .groups) now (atTime now s) (at-sound s now h) .1 in
       let records = written-records (u .k) (u .groups) (ok .unit) (done .sent) output sendable (omega (arith, step-room s now output e)) in
       let same : written (d .count) (d .output) ≡ written n (recordBytes (done .sent) ++ drop (recordSize * n) output) =
@@ -122,10 +122,14 @@ module _ (u : Settings) (me : ℕ) (ok : Made u me) where
       go (arrives r now p late room e a) = rw e (record {
         settings = h .settings;
         number = h .number;
-        pending = λ x i. ⊎-elim (h .pending x)
-            (λ j. subst (λ (y : Pending). Proper (u .k) (u .groups) (y .request)) (sym (List·Memᴰ·eq-of-singleton j)) p)
-            (List·Memᴰ·append-cases (s .pending) i);
-        few = omega (arith, length-append (s .pending) (record { request = r; arrival = now } ∷ []));
+        pending = λ g x i. ⊎-elim (h .pending g x)
+            (λ j. subst (λ (y : Pending). Proper (u .k) (u .groups) (y .request)) (sym (j .0)) p)
+            (arrive-in s r now g x i);
+        housed = arrive-housed s r now (h .housed);
+        few =
+            let new : List Pending = record { request = r; arrival = now } ∷ [] in
+            replace-all (r .group) (s .pending (r .group) ++ new) (s .pending) (λ g l. length l ≤ places)
+            (omega (arith, length-append (s .pending (r .group)) new)) (h .few);
         store = h .store;
       })
       go (steps now late e a) = rw e (visits-soundly u me ok (u .groups) now (atTime now s) (at-sound s now h) .0)

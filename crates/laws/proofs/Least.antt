@@ -1,8 +1,8 @@
--- Laws of the least timestamp, of the earliest arrival, and of a group's batch, which has the least timestamp.
+-- Laws of the least timestamp, of the earliest arrival, and of a queue's batch, which has the least timestamp.
 use Prim.Native.Nat.{ℕ, _+_, _≤_, _<_, min}
 use mathlib.Core.Path.{_≡_, refl, sym, _∙_, ap}
 use mathlib.Core.Logic.{_⊎_, inl, inr, ⊎-elim}
-use mathlib.Core.Bool.{Bool, true, false, not, _&&_, and-eq-true-iff}
+use mathlib.Core.Bool.{Bool, true, false, not}
 use mathlib.Core.List.{List, [], _∷_, List·Memᴰ, List·Memᴰ·head, List·Memᴰ·tail, List·Memᴰ·cases-cons, List·Memᴰ·not-nil, Memᴰ·map}
 use native.Mathlib.Omega.{arith}
 use lib.Dec.{eqb, leb}
@@ -11,11 +11,10 @@ use borrow.Author.Tests.{eqb-true, eq-eqb, leb-true, leb-false, ltb-true, not-tr
 use Rattle.layout.specs.declared.clock.Timestamp.{Timestamp}
 use Rattle.layout.specs.declared.clock.LocalTime.{LocalTime}
 use Rattle.record.specs.declared.request.Request.{Request}
-use Rattle.rules.specs.Lists.{keep}
-use Rattle.rules.specs.Replica.{stamped, lowest, least, requestsOf, ofGroup, groupTimestamp, batchOf, others, earliest, isStable, inBatch, batchAt}
+use Rattle.rules.specs.Replica.{stamped, lowest, least, requestsOf, headTimestamp, batchAt, batchOf, others, earliest, isStable}
 use Rattle.rules.specs.declared.Pending.{Pending}
-use Rattle.question.proofs.Tests.{case, true-not-false, both}
-use Rattle.laws.proofs.Lists.{keep-in, in-keep, keep-none, keep-parts, keep-both, keep-keep, in-length, map-in}
+use Rattle.question.proofs.Tests.{case, true-not-false}
+use Rattle.laws.proofs.Lists.{keep-in, in-keep, keep-none, keep-parts, keep-keep, in-length, map-in}
 
 -- ── the least of some numbers ──
 
@@ -96,89 +95,55 @@ stable-hit delta now (p ∷ l) e =
 pub stable-some : (delta : ℕ) (now : LocalTime) (l : List Pending) → isStable delta now l ≡ true → 0 < length l
 stable-some delta now l e = in-length l (stable-hit delta now l e .1)
 
--- ── the pending requests of a group with a timestamp ──
+-- ── the requests of a queue with a timestamp ──
 
-pub batchAt-in : (group : ℕ) (t : Timestamp) (pending : List Pending) {p : Pending} → List·Memᴰ p (batchAt group t pending)
-    → List·Memᴰ p pending × (p .request .group ≡ group) × (p .request .timestamp .0 ≡ t .0)
-batchAt-in group t pending {p} m =
-    let a = keep-in (inBatch group t) pending m in
-    let b = both (ofGroup group p) (stamped t (p .request)) (a .1) in
-    (a .0, eqb-true (p .request .group) group (b .0), eqb-true (p .request .timestamp .0) (t .0) (b .1))
+pub batchAt-in : (t : Timestamp) (queue : List Pending) {p : Pending} → List·Memᴰ p (batchAt t queue)
+    → List·Memᴰ p queue × (p .request .timestamp .0 ≡ t .0)
+batchAt-in t queue {p} m =
+    let a = keep-in (λ q. stamped t (q .request)) queue m in
+    (a .0, eqb-true (p .request .timestamp .0) (t .0) (a .1))
 
-pub in-batch : (group : ℕ) (t : Timestamp) (p : Pending) → p .request .group ≡ group → p .request .timestamp .0 ≡ t .0 → inBatch group t p ≡ true
-in-batch group t p e f = rw (eq-eqb (p .request .group) group e, eq-eqb (p .request .timestamp .0) (t .0) f)
+module _ (queue : List Pending) where
+  request-in : (p : Pending) → List·Memᴰ p queue → List·Memᴰ (p .request) (requestsOf queue)
+  request-in p m = Memᴰ·map (λ (x : Pending). x .request) m
 
-module _ (group : ℕ) (pending : List Pending) where
-  request-in : (p : Pending) → List·Memᴰ p pending → p .request .group ≡ group → List·Memᴰ (p .request) (requestsOf (keep (ofGroup group) pending))
-  request-in p m e = Memᴰ·map (λ (x : Pending). x .request) (in-keep (ofGroup group) pending m (eq-eqb (p .request .group) group e))
-
-  -- a group that has a pending request has a batch
-  pub batch-hit : (p : Pending) → List·Memᴰ p pending → p .request .group ≡ group → (q : Pending) × List·Memᴰ q (batchOf group pending)
-  batch-hit p m e =
-      let mine = keep (ofGroup group) pending in
-      let t = groupTimestamp group pending in
-      let a = least-hit (requestsOf mine) (request-in p m e) in
-      let b = map-in (λ (x : Pending). x .request) mine (a .1) in
+  -- a queue that has a request has a batch
+  pub batch-hit : (p : Pending) → List·Memᴰ p queue → (q : Pending) × List·Memᴰ q (batchOf queue)
+  batch-hit p m =
+      let t = headTimestamp queue in
+      let a = least-hit (requestsOf queue) (request-in p m) in
+      let b = map-in (λ (x : Pending). x .request) queue (a .1) in
       let c : b .0 .request .timestamp .0 ≡ t .0 = ap (λ (r : Request). r .timestamp .0) (sym (b .2)) ∙ a .2 in
-      let d = keep-in (ofGroup group) pending (b .1) in
-      (b .0, in-keep (inBatch group t) pending (d .0) (in-batch group t (b .0) (eqb-true (b .0 .request .group) group (d .1)) c))
+      (b .0, in-keep (λ (x : Pending). stamped t (x .request)) queue (b .1) (eq-eqb (b .0 .request .timestamp .0) (t .0) c))
 
-  pub batch-some : (p : Pending) → List·Memᴰ p pending → p .request .group ≡ group → 0 < length (batchOf group pending)
-  batch-some p m e = in-length (batchOf group pending) (batch-hit p m e .1)
+  pub batch-some : (p : Pending) → List·Memᴰ p queue → 0 < length (batchOf queue)
+  batch-some p m = in-length (batchOf queue) (batch-hit p m .1)
 
-  -- no pending request of the group has a lesser timestamp than its batch
-  pub batch-least : (p : Pending) → List·Memᴰ p pending → p .request .group ≡ group → groupTimestamp group pending .0 ≤ p .request .timestamp .0
-  batch-least p m e = least-below (requestsOf (keep (ofGroup group) pending)) (request-in p m e)
+  -- no request has a lesser timestamp than the batch
+  pub batch-least : (p : Pending) → List·Memᴰ p queue → headTimestamp queue .0 ≤ p .request .timestamp .0
+  batch-least p m = least-below (requestsOf queue) (request-in p m)
 
   abbrev taken : Pending → Bool
-  taken p = inBatch group (groupTimestamp group pending) p
+  taken p = stamped (headTimestamp queue) (p .request)
 
   -- what stays was there, and is not of the batch
-  pub others-in : {p : Pending} → List·Memᴰ p (others group pending) → List·Memᴰ p pending × (taken p ≡ false)
-  others-in {p} m = let a = keep-in (λ q. not (taken q)) pending m in (a .0, not-true (taken p) (a .1))
+  pub others-in : {p : Pending} → List·Memᴰ p (others queue) → List·Memᴰ p queue × (taken p ≡ false)
+  others-in {p} m = let a = keep-in (λ q. not (taken q)) queue m in (a .0, not-true (taken p) (a .1))
 
   -- the batch and what stays are as many as were pending
-  pub others-batch : length (others group pending) + length (batchOf group pending) ≡ length pending
-  others-batch = keep-parts taken pending
+  pub others-batch : length (others queue) + length (batchOf queue) ≡ length queue
+  others-batch = keep-parts taken queue
 
   -- to take off a batch takes off one request or more
-  pub others-fewer : 0 < length (batchOf group pending) → length (others group pending) < length pending
+  pub others-fewer : 0 < length (batchOf queue) → length (others queue) < length queue
   others-fewer h = omega (arith, others-batch)
 
-  -- none of the batch's group and timestamp stays
-  pub others-none : batchAt group (groupTimestamp group pending) (others group pending) ≡ []
-  others-none = keep-none taken (others group pending) (λ p m. others-in m .1)
+  -- none of the batch's timestamp stays
+  pub others-none : batchAt (headTimestamp queue) (others queue) ≡ []
+  others-none = keep-none taken (others queue) (λ p m. others-in m .1)
 
-  -- the pending requests of a group with a timestamp are taken off all or none
-  pub others-whole : (g : ℕ) (t : Timestamp) → (batchAt g t (others group pending) ≡ []) ⊎ (batchAt g t (others group pending) ≡ batchAt g t pending)
-  others-whole g t = case (eqb g group && eqb (t .0) (groupTimestamp group pending .0)) (λ e. inl (gone e)) (λ e. inr (kept e))
-    where
-      gone : eqb g group && eqb (t .0) (groupTimestamp group pending .0) ≡ true → batchAt g t (others group pending) ≡ []
-      gone e =
-          let a = and-eq-true-iff (eqb g group) (eqb (t .0) (groupTimestamp group pending .0)) .0 e in
-          rw (eqb-true g group (a .0), eqb-true (t .0) (groupTimestamp group pending .0) (a .1)) others-none
-
-      -- a request of g and t that is taken has the batch's group and timestamp
-      hit : (p : Pending) → inBatch g t p ≡ true → taken p ≡ true → eqb g group && eqb (t .0) (groupTimestamp group pending .0) ≡ true
-      hit p i j =
-          let a = and-eq-true-iff (ofGroup g p) (stamped t (p .request)) .0 i in
-          let b = and-eq-true-iff (ofGroup group p) (stamped (groupTimestamp group pending) (p .request)) .0 j in
-          rw (← eqb-true (p .request .group) g (a .0), ← eqb-true (p .request .timestamp .0) (t .0) (a .1), b .0, b .1)
-
-      kept : eqb g group && eqb (t .0) (groupTimestamp group pending .0) ≡ false → batchAt g t (others group pending) ≡ batchAt g t pending
-      kept e = keep-keep (inBatch g t) (λ p. not (taken p)) pending
-          (λ p i. case (taken p) (λ j. true-not-false (eqb g group && eqb (t .0) (groupTimestamp group pending .0)) (hit p i j) e) (λ j. rw j))
-
-  -- the requests of another group all stay
-  pub others-other : (g : ℕ) → eqb group g ≡ false → keep (ofGroup g) (others group pending) ≡ keep (ofGroup g) pending
-  others-other g e = keep-keep (ofGroup g) (λ p. not (taken p)) pending (λ p i. case (ofGroup group p)
-      (λ a. true-not-false (eqb group g) (eq-eqb group g (sym (eqb-true (p .request .group) group a) ∙ eqb-true (p .request .group) g i)) e)
-      (λ a. rw a))
-
--- a group's batch is among its own requests
-pub batchAt-group : (group : ℕ) (t : Timestamp) (pending : List Pending) → batchAt group t pending ≡ keep (λ p. stamped t (p .request)) (keep (ofGroup group) pending)
-batchAt-group group t pending = sym (keep-both (λ p. stamped t (p .request)) (ofGroup group) pending)
-
--- so it depends on them alone
-pub batch-same : (group : ℕ) (a b : List Pending) → keep (ofGroup group) a ≡ keep (ofGroup group) b → batchOf group a ≡ batchOf group b
-batch-same group a b e = rw (batchAt-group group (groupTimestamp group a) a, batchAt-group group (groupTimestamp group b) b, e)
+  -- the requests with a timestamp are taken off all or none
+  pub others-whole : (t : Timestamp) → (batchAt t (others queue) ≡ []) ⊎ (batchAt t (others queue) ≡ batchAt t queue)
+  others-whole t = case (eqb (t .0) (headTimestamp queue .0))
+      (λ e. inl (rw (eqb-true (t .0) (headTimestamp queue .0) e) others-none))
+      (λ e. inr (keep-keep (λ p. stamped t (p .request)) (λ p. not (taken p)) queue (λ p i. rw (eqb-true (p .request .timestamp .0) (t .0) i, e))))

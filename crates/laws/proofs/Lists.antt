@@ -7,7 +7,7 @@ use mathlib.Core.List.{List, [], _∷_, _++_, map, flatMap, append-assoc, List·
 use native.Mathlib.Omega.{arith}
 use lib.Dec.{eqb}
 use lib.ListN.{length, length-append}
-use borrow.Author.Tests.{eqb-true, eqb-false}
+use borrow.Author.Tests.{eqb-true, eqb-false, eq-eqb}
 use Rattle.question.proofs.Tests.{case, true-not-false}
 use Rattle.rules.specs.Lists.{keep, every, some, upTo, tally}
 
@@ -23,6 +23,9 @@ same-test false false f g = refl
 pub not-fails : (b : Bool) → (b ≡ false → ⊥) → b ≡ true
 not-fails true h = refl
 not-fails false h = absurd (h refl)
+
+pub eqb-swap : (a b : ℕ) → eqb a b ≡ eqb b a
+eqb-swap a b = same-test (eqb a b) (eqb b a) (λ e. eq-eqb b a (sym (eqb-true a b e))) (λ e. eq-eqb a b (sym (eqb-true b a e)))
 
 -- ── lists ──
 

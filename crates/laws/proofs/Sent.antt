@@ -1,32 +1,31 @@
 -- The store after a step, and its messages: each batch is handled in the store that the owner's requests before it leave.
-use Prim.Native.Nat.{ℕ, zero, suc, _<_}
+use Prim.Native.Nat.{ℕ, zero, suc}
 use mathlib.Core.Path.{_≡_, refl, sym, _∙_, ap}
-use mathlib.Core.Bool.{Bool, true, false, _&&_, _||_, and-true, and-false, or-true}
+use mathlib.Core.Bool.{Bool, true, false, _||_, or-true}
 use mathlib.Core.List.{List, [], _∷_, _++_, append-nil, flatMap}
 use native.Mathlib.Nat.{zero-add}
 use native.Mathlib.Omega.{arith}
 use lib.Dec.{eqb, ltb}
 use lib.ListN.{length}
-use borrow.Author.Tests.{eqb-true, eqb-false, ne-eqb, lt-ltb, le-ltb}
+use borrow.Author.Tests.{eqb-true, lt-ltb, le-ltb}
 use Rattle.question.specs.Question.{given, within}
 use Rattle.layout.specs.declared.clock.Timestamp.{Timestamp}
 use Rattle.layout.specs.declared.clock.LocalTime.{LocalTime}
 use Rattle.record.specs.declared.request.Request.{Request}
 use Rattle.rules.specs.Lists.{keep, upTo}
 use Rattle.rules.specs.Batch.{Store, Effect}
-use Rattle.rules.specs.Replica.{State, Stepped, requestsOf, ofGroup, visit, visits, Written, written, putAll, atTime, stepped, step}
+use Rattle.rules.specs.Replica.{State, Stepped, requestsOf, visitGroup, visits, Written, written, putAll, atTime, stepped, step}
 use Rattle.rules.specs.Machine.{reactAll}
-use Rattle.rules.specs.declared.Pending.{Pending}
-use Rattle.question.proofs.Tests.{case, both, within-true, in-within}
-use Rattle.laws.specs.Handled.{cleared, clearedOf, handledIn, ownHandled, leftBy, storeWhen, visitSent, stepSent}
+use Rattle.question.proofs.Tests.{case, within-true, in-within}
+use Rattle.laws.specs.Handled.{handledIn, ownHandled, leftBy, storeWhen, visitSent, stepSent}
 use Rattle.laws.specs.Output.{CountsRecords}
-use Rattle.laws.proofs.Lists.{keep-none, keep-both, keep-same, map-keep, flat-append, flat-same}
+use Rattle.laws.proofs.Lists.{eqb-swap, keep-none, keep-all, keep-same, flat-append, flat-same}
 use Rattle.laws.proofs.Keeps.{visits-keep}
 use Rattle.laws.proofs.Machine.{machineFrom}
 use Rattle.laws.proofs.Replies.{before}
-use Rattle.laws.proofs.Handled.{none-within, past-within, next-within, group-left, visits-exactly}
+use Rattle.laws.proofs.Handled.{none-within, past-within, next-within, none-handled, past-left}
 use Rattle.laws.proofs.Batches.{leaves, messagesAt, oneByOne}
-use Rattle.laws.proofs.Visited.{clearedRequests, same-requests, batch-whole, occurring-cleared, outcome, visit-one-by-one}
+use Rattle.laws.proofs.Visited.{clearedRequests, batch-whole, occurring-cleared, outcome, visit-group-one-by-one}
 use Rattle.laws.proofs.Step.{step-accepted}
 use Rattle.laws.proofs.Records.{put-stands}
 
@@ -34,92 +33,66 @@ module _ (s : State) (now : LocalTime) where
   abbrev owner : ℕ
   owner = s .settings .owner
 
-  -- the test and the requests of group n + 1
-  abbrev nextTest : ℕ → Pending → Bool
-  nextTest n p = clearedOf (s .settings .delta) now (s .pending) (suc n) p
-
+  -- what the visit of group n + 1 handles
   abbrev nextRequests : ℕ → List Request
-  nextRequests n = clearedRequests (s .settings .delta) now (suc n) (s .pending)
+  nextRequests n = clearedRequests (s .settings .delta) now (s .pending (suc n))
 
   -- ── the store ──
 
+  -- none of the owner's requests is handled, where the owner is not among groups 1 to n
+  own-none : (n : ℕ) → within 1 n owner ≡ false → ownHandled n s now ≡ []
+  own-none n e = ap requestsOf (keep-none (handledIn n s now owner) (s .pending owner) (λ p i. none-handled s now n owner e p))
+
+  -- all that are cleared, where it is
+  own-all : (n : ℕ) → within 1 n owner ≡ true → ownHandled n s now ≡ clearedRequests (s .settings .delta) now (s .pending owner)
+  own-all n e = ap requestsOf (keep-same _ _ (s .pending owner) (λ p. rw e))
+
   -- the owner's requests that the visits of groups 1 to n + 1 handle, those of group n + 1 only where they pass a test
-  abbrev upToNext : ℕ → (Pending → Bool) → Pending → Bool
-  upToNext n test p = ofGroup owner p && handledIn (suc n) s now p && (ltb (p .request .group) (suc n) || test p)
+  abbrev upToNext : ℕ → (Request → Bool) → List Request
+  upToNext n test = keep (λ r. ltb owner (suc n) || test r) (ownHandled (suc n) s now)
 
-  -- group n + 1 is the owner: none before, and then its own
-  own-before : (n : ℕ) → suc n ≡ owner → ownHandled n s now ≡ []
-  own-before n o = ap requestsOf (keep-none (λ p. ofGroup owner p && handledIn n s now p) (s .pending) (λ p i. case (ofGroup owner p)
-      (λ a. rw (a, eqb-true (p .request .group) owner a, ← o, past-within n))
-      (λ a. rw a)))
-
-  own-next : (n : ℕ) (test : Pending → Bool) → suc n ≡ owner → (p : Pending) → upToNext n test p ≡ (nextTest n p && test p)
-  own-next n test o p = rw (← o) (case (ofGroup (suc n) p)
-      (λ a. rw (
-        a,
-        eqb-true (p .request .group) (suc n) a,
-        in-within 1 (suc n) (suc n) (omega arith) (omega arith),
-        le-ltb (suc n) (suc n) (omega arith),
-      ))
-      (λ a. rw a))
+  -- group n + 1 is the owner: its own
+  own-next : (n : ℕ) (test : Request → Bool) → suc n ≡ owner → upToNext n test ≡ keep test (nextRequests n)
+  own-next n test o =
+      rw (own-all (suc n) (in-within 1 (suc n) owner (omega arith) (omega arith)), le-ltb owner (suc n) (omega arith))
+      (ap (λ g. keep test (clearedRequests (s .settings .delta) now (s .pending g))) (sym o))
 
   -- another group: the owner's are those before
-  guest-next : (n : ℕ) (test : Pending → Bool) → eqb (suc n) owner ≡ false → (p : Pending) → upToNext n test p ≡ (ofGroup owner p && handledIn n s now p)
-  guest-next n test o p = case (ofGroup owner p)
-      (λ a. rw (a, next-within n (p .request .group) (off a)) (case (handledIn n s now p)
-      (λ h. rw (h, lt-ltb (p .request .group) (suc n) (low h)))
-      (λ h. rw h)))
-      (λ a. rw a)
-    where
-      off : ofGroup owner p ≡ true → eqb (p .request .group) (suc n) ≡ false
-      off a = ne-eqb (p .request .group) (suc n) (λ e. eqb-false (suc n) owner o (sym e ∙ eqb-true (p .request .group) owner a))
+  guest-next : (n : ℕ) (test : Request → Bool) → eqb (suc n) owner ≡ false → upToNext n test ≡ ownHandled n s now
+  guest-next n test o =
+      let same = next-within n owner (eqb-swap owner (suc n) ∙ o) in
+      case (within 1 n owner)
+      (λ h. rw (own-all (suc n) (same ∙ h), own-all n h, lt-ltb owner (suc n) (omega (arith, within-true 1 n owner h .1)))
+      (keep-all (λ r. true) (clearedRequests (s .settings .delta) now (s .pending owner)) (λ r i. refl)))
+      (λ h. rw (own-none (suc n) (same ∙ h), own-none n h))
 
-      low : handledIn n s now p ≡ true → p .request .group < suc n
-      low h =
-          let a = both (within 1 n (p .request .group)) (cleared (s .settings .delta) now (s .pending) (p .request .group) (p .request .timestamp)) h .0 in
-          omega (arith, within-true 1 n (p .request .group) a .1)
-
-  store-next : (n : ℕ) (test : Pending → Bool)
-      → leaves (s .settings) (suc n) (requestsOf (keep (λ p. nextTest n p && test p) (s .pending))) (leftBy s (ownHandled n s now))
-      ≡ leftBy s (requestsOf (keep (upToNext n test) (s .pending)))
+  store-next : (n : ℕ) (test : Request → Bool)
+      → leaves (s .settings) (suc n) (keep test (nextRequests n)) (leftBy s (ownHandled n s now))
+      ≡ leftBy s (upToNext n test)
   unfolding leaves machineFrom reactAll
   store-next n test = case (eqb (suc n) owner)
-      (λ o.
-      let e = eqb-true (suc n) owner o in
-      rw (o, own-before n e, keep-same _ _ (s .pending) (own-next n test e)))
-      (λ o. rw (o, keep-same _ _ (s .pending) (guest-next n test o)))
+      (λ o. let e = eqb-true (suc n) owner o in rw (o, own-none n (rw (← e) (past-within n)), own-next n test e))
+      (λ o. rw (o, guest-next n test o))
 
-  -- what the visit of group n + 1 handles after those of groups 1 to n is what it would handle alone
-  next-requests : (n : ℕ) → clearedRequests (s .settings .delta) now (suc n) (visits n now s .state .pending)
-      ≡ nextRequests n
-  next-requests n = same-requests (s .settings .delta) now (suc n) (visits n now s .state .pending) (s .pending)
-      (ap (keep (ofGroup (suc n))) (visits-exactly s now n) ∙ group-left s now n)
-
-  -- so that is what comes of it, in the store that they leave
+  -- what comes of the visit of group n + 1 after those of groups 1 to n, in the store that they leave
   visit-next : (n : ℕ) → visits n now s .state .store ≡ leftBy s (ownHandled n s now)
-      → outcome (visit (suc n) now (length (visits n now s .state .pending)) (visits n now s .state))
+      → outcome (visitGroup (suc n) now (visits n now s .state))
       ≡ oneByOne (s .settings) (s .number) (suc n) (nextRequests n) (leftBy s (ownHandled n s now))
   visit-next n store =
-      let t = visits n now s .state in
       let keeps = visits-keep n now s in
-      visit-one-by-one (suc n) now (length (t .pending)) t (omega arith) ∙ rw (keeps .settings, keeps .number, store, next-requests n)
+      visit-group-one-by-one (suc n) now (visits n now s .state) ∙ rw (keeps .settings, keeps .number, store, past-left s now n (suc n) (omega arith))
 
   -- the visits of groups 1 to n leave what the owner's requests that they handle leave
   pub visits-store : (n : ℕ) → visits n now s .state .store ≡ leftBy s (ownHandled n s now)
   unfolding visits reactAll
-  visits-store zero = rw none
+  visits-store zero = rw (own-none 0 (none-within owner))
+  visits-store (suc n) = ap (λ (e : Effect Store). e .state) (visit-next n (visits-store n)) ∙ rw (all, whole) at (store-next n (λ r. true))
     where
-      none : keep (λ p. ofGroup owner p && handledIn 0 s now p) (s .pending) ≡ []
-      none = keep-none (λ p. ofGroup owner p && handledIn 0 s now p) (s .pending)
-          (λ p i. rw (none-within (p .request .group)) (and-false (ofGroup owner p)))
-  visits-store (suc n) = ap (λ (e : Effect Store). e .state) (visit-next n (visits-store n)) ∙ rw (all, whole) at (store-next n (λ p. true))
-    where
-      all : keep (λ p. nextTest n p && true) (s .pending) ≡ keep (nextTest n) (s .pending)
-      all = keep-same _ _ (s .pending) (λ p. and-true (nextTest n p))
+      all : keep (λ r. true) (nextRequests n) ≡ nextRequests n
+      all = keep-all (λ r. true) (nextRequests n) (λ r i. refl)
 
-      whole : keep (upToNext n (λ p. true)) (s .pending) ≡ keep (λ p. ofGroup owner p && handledIn (suc n) s now p) (s .pending)
-      whole = keep-same _ _ (s .pending)
-          (λ p. rw (or-true (ltb (p .request .group) (suc n))) (and-true (ofGroup owner p && handledIn (suc n) s now p)))
+      whole : upToNext n (λ r. true) ≡ ownHandled (suc n) s now
+      whole = keep-all _ (ownHandled (suc n) s now) (λ r i. or-true (ltb owner (suc n)))
 
   -- ── the messages ──
 
@@ -127,20 +100,14 @@ module _ (s : State) (now : LocalTime) where
   next-store : (n : ℕ) (t : Timestamp)
       → leaves (s .settings) (suc n) (before t (nextRequests n)) (leftBy s (ownHandled n s now))
       ≡ storeWhen s now (suc n) t
-  next-store n t = rw early (store-next n (λ p. ltb (p .request .timestamp .0) (t .0)))
-    where
-      early : before t (nextRequests n)
-          ≡ requestsOf (keep (λ p. nextTest n p && ltb (p .request .timestamp .0) (t .0)) (s .pending))
-      early =
-          map-keep (λ (p : Pending). p .request) (λ r. ltb (r .timestamp .0) (t .0)) (keep (nextTest n) (s .pending))
-          ∙ ap requestsOf (keep-both (λ p. ltb (p .request .timestamp .0) (t .0)) (nextTest n) (s .pending))
+  next-store n t = store-next n (λ r. ltb (r .timestamp .0) (t .0))
 
   next-sent : (n : ℕ)
       → oneByOne (s .settings) (s .number) (suc n) (nextRequests n) (leftBy s (ownHandled n s now)) .sent
       ≡ visitSent s now (suc n)
   next-sent n = flat-same _ _ _ (λ t i.
       rw (
-        batch-whole (s .settings .delta) now (suc n) (s .pending) t (occurring-cleared (s .settings .delta) now (suc n) (s .pending) i),
+        batch-whole (s .settings .delta) now (s .pending (suc n)) t (occurring-cleared (s .settings .delta) now (s .pending (suc n)) i),
         next-store n t,
         messagesAt,
       ))

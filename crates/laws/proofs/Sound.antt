@@ -1,5 +1,5 @@
--- What a replica's state keeps: its pending requests passed the questions, and its variables are 256 of 32 bits, of which variable 0
--- is 0 or 1. So each message that a step sends passes the questions of a record.
+-- What a replica's state keeps: its pending requests passed the questions and stand in the queues of their groups, and its variables
+-- are 256 of 32 bits, of which variable 0 is 0 or 1. So each message that a step sends passes the questions of a record.
 use Prim.Native.Nat.{ℕ, zero, suc, _+_, _*_, _^_, _≤_, _<_}
 use mathlib.Core.Path.{_≡_, refl, sym, _∙_, subst}
 use mathlib.Core.Logic.{_≢_, ⊎-elim}
@@ -18,14 +18,15 @@ use Rattle.record.specs.declared.request.Request.{Request}
 use Rattle.record.specs.Kind.{isWrite}
 use Rattle.rules.specs.Batch.{firstOf, Store, Effect, follow, newStore, valueOf, perform, replyTo, haltTo, handle}
 use Rattle.rules.specs.declared.Settings.{Settings}
-use Rattle.rules.specs.Replica.{State, newState, requestsOf, groupTimestamp, batchOf, isStable, handleBatch, visits}
+use Rattle.rules.specs.Replica.{State, newState, requestsOf, headTimestamp, batchOf, isStable, handleBatch, visits}
 use Rattle.rules.specs.declared.Pending.{Pending}
 use Rattle.question.proofs.Tests.{in-within}
 use Rattle.laws.proofs.Lists.{every-in, map-in, upTo-in}
 use Rattle.laws.proofs.Least.{stable-hit, batchAt-in}
+use Rattle.laws.proofs.Queues.{Housed}
 use Rattle.laws.proofs.Storage.{perform-others, perform-length, fail-marks, fail-length}
 use Rattle.laws.proofs.Verdict.{Unanimous, Handled, answered, performed, failing, passed, Said, replied, halted, handled-said, handle-view}
-use Rattle.laws.proofs.Visits.{visits-all}
+use Rattle.laws.proofs.Visits.{handleIn, visits-all}
 use Rattle.laws.proofs.Keeps.{Keeps, batch-keeps}
 use Rattle.laws.proofs.Records.{Sendable, AllSendable}
 use Rattle.laws.proofs.Accepted.{Made, Proper}
@@ -86,12 +87,20 @@ module _ (u : Settings) (me : ℕ) where
   pub record Sound (s : State) : Type 0 where
     pub settings : s .settings ≡ u
     pub number : s .number ≡ me
-    pub pending : (p : Pending) → List·Memᴰ p (s .pending) → Proper (u .k) (u .groups) (p .request)
-    pub few : length (s .pending) ≤ places
+    pub pending : (g : ℕ) (p : Pending) → List·Memᴰ p (s .pending g) → Proper (u .k) (u .groups) (p .request)
+    pub housed : Housed s
+    pub few : (g : ℕ) → length (s .pending g) ≤ places
     pub store : InOrder (s .store)
 
   pub new-sound : Sound (newState u me)
-  new-sound = record { settings = refl; number = refl; pending = λ p i. absurd (List·Memᴰ·not-nil i); few = omega arith; store = new-in-order }
+  new-sound = record {
+    settings = refl;
+    number = refl;
+    pending = λ g p i. absurd (List·Memᴰ·not-nil i);
+    housed = λ g p i. absurd (List·Memᴰ·not-nil i);
+    few = λ g. omega arith;
+    store = new-in-order;
+  }
 
   -- what is done keeps the state sound, and sends messages that pass
   abbrev pub Soundly : State → Effect State → Type 0
@@ -143,45 +152,47 @@ module _ (u : Settings) (me : ℕ) (ok : Made u me) where
       go (replied r j e) = rw e (reply-sendable s r h (proper r j))
       go (halted process j e) = let p = upTo-in (u .k + 1) j in rw e (halt-sendable group t process low high small (p .0) (p .1))
 
-  batch-soundly : (now : LocalTime) (group : ℕ) (s : State) → isStable (s .settings .delta) now (batchOf group (s .pending)) ≡ true
-      → Soundly u me s (handleBatch group s)
-  unfolding handleBatch
+  batch-soundly : (now : LocalTime) (group : ℕ) (s : State) → isStable (s .settings .delta) now (batchOf (s .pending group)) ≡ true
+      → Soundly u me s (handleIn group s)
+  unfolding handleIn handleBatch
   batch-soundly now group s stable h = (after, sent)
     where
       t : Timestamp
-      t = groupTimestamp group (s .pending)
+      t = headTimestamp (s .pending group)
 
       batch : List Request
-      batch = requestsOf (batchOf group (s .pending))
+      batch = requestsOf (batchOf (s .pending group))
 
       proper : (r : Request) → List·Memᴰ r batch → Proper (u .k) (u .groups) r
       proper r i =
-          let a = map-in (λ (p : Pending). p .request) (batchOf group (s .pending)) i in
-          let b = batchAt-in group t (s .pending) (a .1) in
-          rw (a .2) (h .pending (a .0) (b .0))
+          let a = map-in (λ (p : Pending). p .request) (batchOf (s .pending group)) i in
+          let b = batchAt-in t (s .pending group) (a .1) in
+          rw (a .2) (h .pending group (a .0) (b .0))
 
-      keeps : Keeps s (handleBatch group s .state)
+      keeps : Keeps s (handleIn group s .state)
       keeps = batch-keeps group s
 
-      after : Sound u me (handleBatch group s .state)
+      after : Sound u me (handleIn group s .state)
       after = record {
         settings = h .settings;
         number = h .number;
-        pending = λ p i. h .pending p (keeps .pending p i);
-        few = omega (arith, h .few, keeps .fewer);
+        pending = λ g p i. h .pending g p (keeps .pending g p i);
+        housed = λ g p i. h .housed g p (keeps .pending g p i);
+        few = λ g. omega (arith, h .few g, keeps .fewer g);
         store =
             subst (λ (v : Settings). InOrder (handle v (s .number) group t batch (s .store) .state)) (sym (h .settings))
             (handle-in-order u (s .number) group t batch (s .store) proper (h .store));
       }
 
-      sent : AllSendable (u .k) (u .groups) (handleBatch group s .sent)
+      sent : AllSendable (u .k) (u .groups) (handleIn group s .sent)
       sent =
-          let a = stable-hit (s .settings .delta) now (batchOf group (s .pending)) stable in
-          let b = batchAt-in group t (s .pending) (a .1) in
-          let p = h .pending (a .0) (b .0) in
-          let low : 1 ≤ group = omega (arith, p .group-low, b .1) in
-          let high : group ≤ u .groups = omega (arith, p .group-high, b .1) in
-          let small : t .0 < 256 ^ 8 = omega (arith, p .timestamp, b .2) in
+          let a = stable-hit (s .settings .delta) now (batchOf (s .pending group)) stable in
+          let b = batchAt-in t (s .pending group) (a .1) in
+          let p = h .pending group (a .0) (b .0) in
+          let of = h .housed group (a .0) (b .0) in
+          let low : 1 ≤ group = omega (arith, p .group-low, of) in
+          let high : group ≤ u .groups = omega (arith, p .group-high, of) in
+          let small : t .0 < 256 ^ 8 = omega (arith, p .timestamp, b .1) in
           rw (h .settings, h .number) (handle-sendable group t batch (s .store) (h .store) low high small proper)
 
   pub visits-soundly : (n : ℕ) (now : LocalTime) (s : State) → Soundly u me s (visits n now s)

@@ -1,11 +1,10 @@
 -- Whose each message of a step is: a handled batch's, in the store at that point. So a reply has the value of its variable then.
 use Prim.Native.Nat.{ℕ}
-use mathlib.Core.Path.{_≡_, refl, sym, _∙_, ap}
+use mathlib.Core.Path.{_≡_, sym, _∙_, ap}
 use mathlib.Core.Logic.{_↔_}
 use mathlib.Core.Bool.{true}
-use mathlib.Core.List.{List·Memᴰ}
+use mathlib.Core.List.{List, List·Memᴰ}
 use native.Mathlib.Omega.{arith}
-use borrow.Author.Tests.{eqb-true}
 use Rattle.question.specs.Question.{within}
 use Rattle.record.specs.Kind.{reply}
 use Rattle.layout.specs.declared.clock.Timestamp.{Timestamp}
@@ -18,7 +17,7 @@ use Rattle.rules.specs.Replica.{State, requestsOf, batchAt, visits, atTime}
 use Rattle.rules.specs.Machine.{occurring}
 use Rattle.rules.specs.declared.Pending.{Pending}
 use Rattle.question.proofs.Tests.{both, within-true, in-within}
-use Rattle.laws.specs.Handled.{cleared, handled, storeWhen, batchSent, visitSent, stepSent, ForHandled}
+use Rattle.laws.specs.Handled.{clearedOf, handled, storeWhen, batchSent, visitSent, stepSent, ForHandled}
 use Rattle.laws.proofs.Lists.{map-in, flat-in, in-flat, upTo-in, in-upTo}
 use Rattle.laws.proofs.Least.{batchAt-in}
 use Rattle.laws.proofs.Verdict.{Said, replied, halted, handled-said, handle-view}
@@ -27,35 +26,36 @@ use Rattle.laws.proofs.Visited.{clearedRequests, request-cleared, clear
 use Rattle.laws.proofs.Sent.{step-sends}
 
 module _ (s : State) (now : LocalTime) where
-  -- whether a request is handled depends on its group and its timestamp
-  same-handled : (p q : Pending) → p .request .group ≡ q .request .group → p .request .timestamp ≡ q .request .timestamp → handled s now p ≡ handled s now q
-  same-handled p q of at = rw (of, at)
+  -- the requests that the visit of a group handles
+  abbrev visited : ℕ → List Request
+  visited g = clearedRequests (s .settings .delta) now (s .pending g)
 
-  -- of a timestamp that the visit of a group comes to
+  -- what is sent for a handled request's batch is among a step's messages
+  back : (m : Message) → ForHandled s now m → List·Memᴰ m (stepSent s now)
+  back m f =
+      let g = f .0 in
+      let h = both (within 1 (s .settings .groups) g) (clearedOf (s .settings .delta) now (s .pending g) (f .1)) (f .3) in
+      let bounds = within-true 1 (s .settings .groups) g (h .0) in
+      let r = cleared-request (s .settings .delta) now (s .pending g) (f .2) (h .1) in
+      in-flat (visitSent s now) (upTo (s .settings .groups)) (in-upTo (s .settings .groups) g (bounds .0) (bounds .1))
+      (in-flat (batchSent s now g) _ (in-occurring (visited g) r) (f .4))
+
+  -- a message for a timestamp that the visit of a group comes to belongs to a handled batch
   visit-message : (m : Message) (g : ℕ) (t : Timestamp) → List·Memᴰ g (upTo (s .settings .groups))
-      → List·Memᴰ t (occurring (clearedRequests (s .settings .delta) now g (s .pending))) → List·Memᴰ m (batchSent s now g t) → ForHandled s now m
+      → List·Memᴰ t (occurring (visited g)) → List·Memᴰ m (batchSent s now g t) → ForHandled s now m
   visit-message m g t i j k =
-      let r = occurring-in (clearedRequests (s .settings .delta) now g (s .pending)) j in
-      let p = request-cleared (s .settings .delta) now g (s .pending) (r .1) in
-      let of = eqb-true (p .0 .request .group) g (p .2) in
-      let at : p .0 .request .timestamp ≡ t = ap (λ (q : Request). q .timestamp) (sym (p .4)) ∙ r .2 in
+      let r = occurring-in (visited g) j in
+      let p = request-cleared (s .settings .delta) now (s .pending g) (r .1) in
+      let at : p .0 .request .timestamp ≡ t = ap (λ (q : Request). q .timestamp) (sym (p .3)) ∙ r .2 in
       let bounds = upTo-in (s .settings .groups) i in
-      (p .0, p .1, rw (of, in-within 1 (s .settings .groups) g (bounds .0) (bounds .1)) (p .3), rw (of, at) k)
+      (g, p .0, p .1, rw (in-within 1 (s .settings .groups) g (bounds .0) (bounds .1)) (p .2), rw at k)
 
+  -- and so does each of a step's
   there : (m : Message) → List·Memᴰ m (stepSent s now) → ForHandled s now m
   there m i =
       let g = flat-in (visitSent s now) (upTo (s .settings .groups)) i in
-      let t = flat-in (batchSent s now (g .0)) (occurring (clearedRequests (s .settings .delta) now (g .0) (s .pending))) (g .2) in
+      let t = flat-in (batchSent s now (g .0)) (occurring (visited (g .0))) (g .2) in
       visit-message m (g .0) (t .0) (g .1) (t .1) (t .2)
-
-  back : (m : Message) → ForHandled s now m → List·Memᴰ m (stepSent s now)
-  back m f =
-      let g = f .0 .request .group in
-      let h = both (within 1 (s .settings .groups) g) (cleared (s .settings .delta) now (s .pending) g (f .0 .request .timestamp)) (f .2) in
-      let bounds = within-true 1 (s .settings .groups) g (h .0) in
-      let r = cleared-request (s .settings .delta) now g (s .pending) (f .1) refl (h .1) in
-      in-flat (visitSent s now) (upTo (s .settings .groups)) (in-upTo (s .settings .groups) g (bounds .0) (bounds .1))
-      (in-flat (batchSent s now g) _ (in-occurring (clearedRequests (s .settings .delta) now g (s .pending)) r) (f .3))
 
   -- the messages are exactly those of the handled batches
   pub sent-exactly : (m : Message) → List·Memᴰ m (visits (s .settings .groups) now (atTime now s) .sent) ↔ ForHandled s now m
@@ -63,24 +63,25 @@ module _ (s : State) (now : LocalTime) where
 
   -- a reply answers a handled request, with the value of its variable when its batch is handled
   pub reply-value : (m : Message) → List·Memᴰ m (visits (s .settings .groups) now (atTime now s) .sent) → m .kind ≡ reply
-      → (p : Pending) × List·Memᴰ p (s .pending) × (handled s now p ≡ true)
-      × (m ≡ replyTo (storeWhen s now (p .request .group) (p .request .timestamp)) (s .number) (p .request))
+      → (group : ℕ) × (p : Pending) × List·Memᴰ p (s .pending group) × (handled s now group p ≡ true)
+      × (m ≡ replyTo (storeWhen s now group (p .request .timestamp)) (s .number) (p .request))
   reply-value m i kind =
       let f = sent-exactly m .0 i in
-      answer (f .0) (f .2) (handled-said (s .settings .k) (s .settings .owner) (s .number) _ _ _ _ (handle-view (s .settings) (s .number) _ _ _ _) m (f .3))
+      answer (f .0) (f .1) (f .3) (handled-said (s .settings .k) (s .settings .owner) (s .number) _ _ _ _ (handle-view (s .settings) (s .number) _ _ _ _) m (f .4))
     where
-      answer : (p : Pending) → handled s now p ≡ true
-          → Said (s .settings .k) (s .settings .owner) (s .number) (p .request .group) (p .request .timestamp)
-          (requestsOf (batchAt (p .request .group) (p .request .timestamp) (s .pending))) (storeWhen s now (p .request .group) (p .request .timestamp)) m
-          → (q : Pending) × List·Memᴰ q (s .pending) × (handled s now q ≡ true)
-          × (m ≡ replyTo (storeWhen s now (q .request .group) (q .request .timestamp)) (s .number) (q .request))
-      answer p h (replied r j e) =
-          let q = map-in (λ (x : Pending). x .request) (batchAt (p .request .group) (p .request .timestamp) (s .pending)) j in
-          let a = batchAt-in (p .request .group) (p .request .timestamp) (s .pending) (q .1) in
-          let at : q .0 .request .timestamp ≡ p .request .timestamp = same-timestamp (a .2) in (
+      answer : (g : ℕ) (p : Pending) → handled s now g p ≡ true
+          → Said (s .settings .k) (s .settings .owner) (s .number) g (p .request .timestamp)
+          (requestsOf (batchAt (p .request .timestamp) (s .pending g))) (storeWhen s now g (p .request .timestamp)) m
+          → (group : ℕ) × (q : Pending) × List·Memᴰ q (s .pending group) × (handled s now group q ≡ true)
+          × (m ≡ replyTo (storeWhen s now group (q .request .timestamp)) (s .number) (q .request))
+      answer g p h (replied r j e) =
+          let q = map-in (λ (x : Pending). x .request) (batchAt (p .request .timestamp) (s .pending g)) j in
+          let a = batchAt-in (p .request .timestamp) (s .pending g) (q .1) in
+          let at : q .0 .request .timestamp ≡ p .request .timestamp = same-timestamp (a .1) in (
+            g,
             q .0,
             a .0,
-            same-handled (q .0) p (a .1) at ∙ h,
-            e ∙ ap (replyTo (storeWhen s now (p .request .group) (p .request .timestamp)) (s .number)) (q .2) ∙ rw (a .1, at),
+            rw at h,
+            e ∙ ap (replyTo (storeWhen s now g (p .request .timestamp)) (s .number)) (q .2) ∙ rw at,
           )
-      answer p h (halted process j e) = absurd (omega (arith, kind, ap (λ (x : Message). x .kind) e))
+      answer g p h (halted process j e) = absurd (omega (arith, kind, ap (λ (x : Message). x .kind) e))

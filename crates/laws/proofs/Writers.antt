@@ -3,20 +3,21 @@
 use Prim.Native.Nat.{ℕ, _+_, _≤_}
 use mathlib.Core.Path.{_≡_, refl, sym, _∙_, ap, subst}
 use mathlib.Core.Logic.{⊎-elim}
-use mathlib.Core.List.{List, [], _∷_, List·Memᴰ, List·Memᴰ·not-nil, List·Memᴰ·append-cases, List·Memᴰ·eq-of-singleton, Memᴰ·append-left, Memᴰ·append-right, Memᴰ·map}
+use mathlib.Core.List.{List, [], _∷_, List·Memᴰ, List·Memᴰ·head, List·Memᴰ·not-nil, Memᴰ·append-left, Memᴰ·append-right, Memᴰ·map}
 use borrow.Author.Tests.{eq-eqb}
 use Rattle.question.specs.Question.{Answer, given, refused, bind, after}
 use Rattle.layout.specs.declared.clock.LocalTime.{LocalTime}
 use Rattle.record.specs.declared.request.Request.{Request}
 use Rattle.rules.specs.Batch.{Store, newStore, handle}
 use Rattle.rules.specs.declared.Settings.{Settings}
-use Rattle.rules.specs.Replica.{State, Stepped, newState, admit, arrive, deliver, requestsOf, groupTimestamp, batchOf, handleBatch, visits, atTime, stepped, step}
+use Rattle.rules.specs.Replica.{State, Stepped, newState, admit, arrive, deliver, requestsOf, headTimestamp, batchOf, handleBatch, visits, atTime, stepped, step}
 use Rattle.rules.specs.Run.{Call, delivery, turn, sentBy, call, run, arrived, arrivalOf, arrivals}
 use Rattle.rules.specs.declared.Pending.{Pending}
 use Rattle.laws.proofs.Lists.{map-in}
 use Rattle.laws.proofs.Least.{batchAt-in}
+use Rattle.laws.proofs.Queues.{arrive-in, Housed, arrive-housed}
 use Rattle.laws.proofs.Accepted.{read-process, admit-admitted}
-use Rattle.laws.proofs.Visits.{visits-all}
+use Rattle.laws.proofs.Visits.{handleIn, visits-all}
 use Rattle.laws.proofs.Keeps.{Keeps, batch-keeps}
 use Rattle.laws.proofs.Step.{step-accepted}
 use Rattle.laws.proofs.Senders.{Change, kept, fails, performs, performed-by-all}
@@ -31,7 +32,7 @@ admit-process s bytes now e = read-process (s .settings .k) (s .settings .groups
 
 -- the requests of the batch that is handled next
 abbrev batchIn : ℕ → State → List Request
-batchIn group s = requestsOf (batchOf group (s .pending))
+batchIn group s = requestsOf (batchOf (s .pending group))
 
 module _ (u : Settings) (requests : List Request) where
   -- one change after another, each by requests that were sent
@@ -62,11 +63,12 @@ module _ (u : Settings) (requests : List Request) where
   abbrev Within : Request → Type 0
   Within r = (1 ≤ r .process) × (r .process ≤ u .k + 1)
 
-  -- what is pending was sent, by processes within 1 to k + 1
+  -- what is pending is of processes within 1 to k + 1, and what is pending of the owner was sent
   record Ready (s : State) : Type 0 where
     settings : s .settings ≡ u
-    within : (p : Pending) → List·Memᴰ p (s .pending) → Within (p .request)
-    known : (p : Pending) → List·Memᴰ p (s .pending) → p .request .group ≡ u .owner → List·Memᴰ (p .request) requests
+    within : (g : ℕ) (p : Pending) → List·Memᴰ p (s .pending g) → Within (p .request)
+    housed : Housed s
+    known : (p : Pending) → List·Memᴰ p (s .pending (u .owner)) → List·Memᴰ (p .request) requests
 
   abbrev Runs : State → State → Type 0
   Runs s t = Ready s → Ready t × Course (s .store) (t .store)
@@ -80,35 +82,38 @@ module _ (u : Settings) (requests : List Request) where
   keeps-ready : {s t : State} → Keeps s t → Ready s → Ready t
   keeps-ready k r = record {
     settings = k .settings ∙ r .settings;
-    within = λ p i. r .within p (k .pending p i);
-    known = λ p i. r .known p (k .pending p i);
+    within = λ g p i. r .within g p (k .pending g p i);
+    housed = λ g p i. r .housed g p (k .pending g p i);
+    known = λ p i. r .known p (k .pending (u .owner) p i);
   }
 
-  batch-runs : (group : ℕ) (s : State) → Runs s (handleBatch group s .state)
-  unfolding handleBatch
+  batch-runs : (group : ℕ) (s : State) → Runs s (handleIn group s .state)
+  unfolding handleIn handleBatch
   batch-runs group s r = (keeps-ready (batch-keeps group s) r, then start (change-more (batchIn group s) more change))
     where
       from : (q : Request) → List·Memᴰ q (batchIn group s)
-          → (p : Pending) × (q ≡ p .request) × List·Memᴰ p (s .pending) × (p .request .group ≡ group)
-          × (p .request .timestamp .0 ≡ groupTimestamp group (s .pending) .0)
+          → (p : Pending) × (q ≡ p .request) × List·Memᴰ p (s .pending group) × (p .request .timestamp .0 ≡ headTimestamp (s .pending group) .0)
       from q i =
-          let a = map-in (λ (p : Pending). p .request) (batchOf group (s .pending)) i in
-          let b = batchAt-in group (groupTimestamp group (s .pending)) (s .pending) (a .1) in
-          (a .0, a .2, b .0, b .1, b .2)
+          let a = map-in (λ (p : Pending). p .request) (batchOf (s .pending group)) i in
+          let b = batchAt-in (headTimestamp (s .pending group)) (s .pending group) (a .1) in
+          (a .0, a .2, b .0, b .1)
 
       more : (q : Request) → List·Memᴰ q (batchIn group s) → q .group ≡ u .owner → List·Memᴰ q requests
       more q i e =
           let a = from q i in
-          let owned : a .0 .request .group ≡ u .owner = ap (λ (x : Request). x .group) (sym (a .1)) ∙ e in
-          subst (λ (x : Request). List·Memᴰ x requests) (sym (a .1)) (r .known (a .0) (a .2) owned)
+          let owned : group ≡ u .owner = sym (r .housed group (a .0) (a .2)) ∙ (ap (λ (x : Request). x .group) (sym (a .1)) ∙ e) in
+          rw (a .1) (r .known (a .0) (subst (λ g. List·Memᴰ (a .0) (s .pending g)) owned (a .2)))
 
       of : (q : Request) → List·Memᴰ q (batchIn group s)
-          → (q .group ≡ group) × (q .timestamp .0 ≡ groupTimestamp group (s .pending) .0) × (1 ≤ q .process) × (q .process ≤ u .k + 1)
-      of q i = let a = from q i in let w = r .within (a .0) (a .2) in rw (a .1) (a .3, a .4, w .0, w .1)
+          → (q .group ≡ group) × (q .timestamp .0 ≡ headTimestamp (s .pending group) .0) × (1 ≤ q .process) × (q .process ≤ u .k + 1)
+      of q i =
+          let a = from q i in
+          let w = r .within group (a .0) (a .2) in
+          rw (a .1) (r .housed group (a .0) (a .2), a .3, w .0, w .1)
 
-      change : Change u (batchIn group s) (s .store) (handleBatch group s .state .store)
+      change : Change u (batchIn group s) (s .store) (handleIn group s .state .store)
       change =
-          let t = groupTimestamp group (s .pending) in
+          let t = headTimestamp (s .pending group) in
           let batch = batchIn group s in
           subst (λ (v : Settings). Change u batch (s .store) (handle v (s .number) group t batch (s .store) .state)) (sym (r .settings))
           (performed-by-all u (s .number) group t batch (s .store) of)
@@ -121,7 +126,7 @@ module _ (u : Settings) (requests : List Request) where
   unfolding stepped
   step-runs s now output (refused number) e = runs-same s
   step-runs s now output (given d) e = λ r. rw (step-accepted s now output e)
-      (visits-run (s .settings .groups) now (atTime now s) (record { settings = r .settings; within = r .within; known = r .known }))
+      (visits-run (s .settings .groups) now (atTime now s) (record { settings = r .settings; within = r .within; housed = r .housed; known = r .known }))
 
   -- the arrivals are among the requests
   abbrev Covers : List Pending → Type 0
@@ -130,21 +135,22 @@ module _ (u : Settings) (requests : List Request) where
   deliver-runs : (s : State) (bytes : List ℕ) (now : LocalTime) (a : Answer Request) → admit s bytes now ≡ a
       → Covers (arrived (s .settings .owner) now a) → Runs s (after s (bind a (λ r. given (arrive s r now))))
   deliver-runs s bytes now (refused number) e all = runs-same s
-  deliver-runs s bytes now (given q) e all = λ r. (record { settings = r .settings; within = within r; known = known r }, start)
+  deliver-runs s bytes now (given q) e all = λ r.
+      (record { settings = r .settings; within = within r; housed = arrive-housed s q now (r .housed); known = known r }, start)
     where
-      within : Ready s → (p : Pending) → List·Memᴰ p (arrive s q now .pending) → Within (p .request)
-      within r p i =
+      within : Ready s → (g : ℕ) (p : Pending) → List·Memᴰ p (arrive s q now .pending g) → Within (p .request)
+      within r g p i =
           let w : Within q = subst (λ (v : Settings). (1 ≤ q .process) × (q .process ≤ v .k + 1)) (r .settings) (admit-process s bytes now e) in
-          ⊎-elim (r .within p)
-          (λ j. subst (λ (x : Pending). Within (x .request)) (sym (List·Memᴰ·eq-of-singleton j)) w)
-          (List·Memᴰ·append-cases (s .pending) i)
+          ⊎-elim (r .within g p)
+          (λ j. subst (λ (x : Pending). Within (x .request)) (sym (j .0)) w)
+          (arrive-in s q now g p i)
 
-      known : Ready s → (p : Pending) → List·Memᴰ p (arrive s q now .pending) → p .request .group ≡ u .owner → List·Memᴰ (p .request) requests
-      known r p i g = ⊎-elim (λ j. r .known p j g)
+      known : Ready s → (p : Pending) → List·Memᴰ p (arrive s q now .pending (u .owner)) → List·Memᴰ (p .request) requests
+      known r p i = ⊎-elim (r .known p)
           (λ j.
-          let owned : q .group ≡ s .settings .owner = ap (λ (x : Pending). x .request .group) (sym (List·Memᴰ·eq-of-singleton j)) ∙ (g ∙ ap (λ (v : Settings). v .owner) (sym (r .settings))) in
-          all p (rw (eq-eqb (q .group) (s .settings .owner) owned) j))
-          (List·Memᴰ·append-cases (s .pending) i)
+          let owned : q .group ≡ s .settings .owner = sym (j .1) ∙ ap (λ (v : Settings). v .owner) (sym (r .settings)) in
+          all p (rw (eq-eqb (q .group) (s .settings .owner) owned) (List·Memᴰ·head (j .0))))
+          (arrive-in s q now (u .owner) p i)
 
   call-runs : (s : State) (c : Call) → Covers (arrivalOf s c) → Runs s (call s c .state)
   unfolding call deliver
@@ -162,4 +168,9 @@ pub run-performed-by-all : (u : Settings) (number : ℕ) (calls : List Call)
     → Course u (requestsOf (arrivals (newState u number) calls)) newStore (run (newState u number) calls .state .store)
 run-performed-by-all u number calls =
     run-runs u (requestsOf (arrivals (newState u number) calls)) calls (newState u number) (λ p i. Memᴰ·map (λ (x : Pending). x .request) i)
-    (record { settings = refl; within = λ p i. absurd (List·Memᴰ·not-nil i); known = λ p i. absurd (List·Memᴰ·not-nil i) }) .1
+    (record {
+      settings = refl;
+      within = λ g p i. absurd (List·Memᴰ·not-nil i);
+      housed = λ g p i. absurd (List·Memᴰ·not-nil i);
+      known = λ p i. absurd (List·Memᴰ·not-nil i);
+    }) .1

@@ -25,9 +25,13 @@ variableCount = 256
 abbrev pub maxWrites : ℕ
 maxWrites = 2 ^ 64 - 1
 
--- the pending requests that a replica has places for
+-- the pending requests that a replica has places for, of each group
 abbrev pub places : ℕ
-places = 64
+places = 16
+
+-- and of all of them together
+abbrev pub allPlaces : ℕ
+allPlaces = maxGroups * places
 
 -- the bytes of a record, and those of an entry of a journal
 abbrev pub recordSize : ℕ

@@ -24,8 +24,13 @@ pub const VARIABLES: usize = 256;
 // The count of writes performed holds at this, the greatest 64-bit number.
 pub const MAX_WRITES: u64 = 18446744073709551615;
 
-// The pending requests that a replica has places for.
-pub const PLACES: usize = 64;
+// The queues of a replica, one for each group that there may be; the pending requests that each has
+// places for, and all of them together.
+pub const QUEUES: usize = 4;
+
+pub const PLACES: usize = 16;
+
+pub const ALL_PLACES: usize = QUEUES * PLACES;
 
 // The bytes of a record, and those of an entry of a journal.
 pub const RECORD: usize = 24;

@@ -12,7 +12,7 @@ use Rattle.layout.specs.Layout.{fieldsOf, bytesOf}
 use Rattle.record.specs.Kind.{read, write}
 use Rattle.record.specs.Record.{requestFields, fieldQuestions, readFields, writeFields}
 use Rattle.rules.specs.Batch.{verdictOf, handle}
-use Rattle.rules.specs.Replica.{admit, deliver, handleBatch, visit, visits, put, putAll, stepped, step}
+use Rattle.rules.specs.Replica.{admit, deliver, handleBatch, visit, visitGroup, visits, put, putAll, stepped, step}
 use Rattle.rules.specs.Run.{messagesIn}
 use Rattle.entry.specs.Entry.{readSetup, readEntry}
 use Rattle.playback.specs.Play.{playEntry}
@@ -43,5 +43,5 @@ input =
 -- ── the text ──
 
 pub whole-run : journal input ≡ ascii "reply 1 1 1 51 3 9\ncard 1 0 1\n"
-unfolding ask unitQuestions number digits fieldsOf bytesOf fieldQuestions readFields writeFields verdictOf handle admit deliver handleBatch visit visits put putAll stepped step messagesIn readSetup readEntry playEntry decimalIn decimal line playAll journal
+unfolding ask unitQuestions number digits fieldsOf bytesOf fieldQuestions readFields writeFields verdictOf handle admit deliver handleBatch visit visitGroup visits put putAll stepped step messagesIn readSetup readEntry playEntry decimalIn decimal line playAll journal
 whole-run = refl

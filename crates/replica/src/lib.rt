@@ -1,18 +1,15 @@
-// The replica (document 01's storage card) as code: make, deliver, step. Each does what crates/rules
-// says of the state that the struct stands for, for any value of any parameter.
+// The replica (document 01's storage card) as code: make, deliver, step, handed on from where they
+// stand. Each does what crates/rules says of the state that the struct stands for, for any value of any
+// parameter.
 //
-// Read on in this order: crates/batch (the struct, and the batch of a group), crates/delivery (make
-// and deliver); then for a step `output` (the messages), `handle` (one batch), `stepping`. What runs
-// of these calls amount to: crates/unit.
-mod handle;
-mod output;
-mod stepping;
-
-pub use batch::Replica;
+// Read on in this order: crates/state (the struct, and make), crates/queue (one group's pending
+// requests), crates/batch (those with the least timestamp), crates/delivery, crates/step. What runs of
+// these calls amount to: crates/unit.
 pub use delivery::Delivered;
-pub use delivery::Made;
 pub use delivery::deliver;
-pub use delivery::make;
-pub use stepping::StepAnswer;
-pub use stepping::Stepped;
-pub use stepping::step;
+pub use state::Made;
+pub use state::Replica;
+pub use state::make;
+pub use step::StepAnswer;
+pub use step::Stepped;
+pub use step::step;

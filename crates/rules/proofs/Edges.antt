@@ -6,11 +6,11 @@ use Rattle.layout.specs.Number.{number, digits}
 use Rattle.layout.specs.Layout.{fieldsOf, bytesOf}
 use Rattle.record.specs.Record.{fieldQuestions, readFields, writeFields}
 use Rattle.rules.specs.Batch.{verdictOf, handle}
-use Rattle.rules.specs.Replica.{make, admit, deliver, handleBatch, visit, visits, put, putAll, stepped, step}
+use Rattle.rules.specs.Replica.{make, admit, deliver, handleBatch, visit, visitGroup, visits, put, putAll, stepped, step}
 use Rattle.rules.specs.Run.{messagesIn, call, run, arrivals}
 use Rattle.rules.specs.Machine.{react, reactAll, machine}
 use Rattle.rules.specs.Edges.{see, rows}
 
 pub edges-hold : map see rows ≡ map (λ row. row .expected) rows
-unfolding ask unitQuestions number digits fieldsOf bytesOf fieldQuestions readFields writeFields verdictOf handle make admit deliver handleBatch visit visits put putAll stepped step messagesIn call run arrivals react reactAll machine
+unfolding ask unitQuestions number digits fieldsOf bytesOf fieldQuestions readFields writeFields verdictOf handle make admit deliver handleBatch visit visitGroup visits put putAll stepped step messagesIn call run arrivals react reactAll machine
 edges-hold = refl

@@ -2,11 +2,10 @@
 -- show beside it what the machine makes of the requests that arrived; row 12 is two votes.
 use Prim.Native.Nat.{ℕ}
 use mathlib.Core.List.{List, [], _∷_}
-use lib.ListN.{length}
 use Rattle.question.specs.Question.{Answer, given, refused, mapAnswer}
 use Rattle.record.specs.declared.message.Message.{Message}
 use Rattle.rules.specs.Batch.{replyWith, haltTo}
-use Rattle.rules.specs.Replica.{State, newState, requestsOf, step}
+use Rattle.rules.specs.Replica.{State, newState, pendingIn, requestsOf, step}
 use Rattle.rules.specs.Run.{Call, delivery, turn, call, run, arrivals}
 use Rattle.rules.specs.Machine.{machine}
 use Rattle.rules.specs.Vote.{vote}
@@ -35,7 +34,7 @@ abbrev pub see : Example → Seen
 see (play calls) =
     let s = newState settings 1 in
     let done = run s calls in
-    saw (figures (done .state .store)) (length (done .state .pending)) (stepAnswers s calls) (done .sent) (figures (machine 1 1 (requestsOf (arrivals s calls)) .state))
+    saw (figures (done .state .store)) (pendingIn 2 (done .state .pending)) (stepAnswers s calls) (done .sent) (figures (machine 1 1 (requestsOf (arrivals s calls)) .state))
 see (poll list) = voted (vote 1 2 (record { group = 1; process = 1; variable = 4; timestamp = record { 0 = 10 } }) list)
 
 -- ── the rows ──

@@ -1,7 +1,9 @@
 -- The numbers of making, of delivery and of a step, as rows: each limit and one past it; and for neighbouring questions a call that
 -- fails both, which gives the first one's number.
 use Prim.Native.Nat.{ℕ, _+_, _^_}
+use mathlib.Core.Bool.{cond}
 use mathlib.Core.List.{List, [], _∷_, _++_}
+use lib.Dec.{eqb}
 use lib.ListN.{replicate}
 use Rattle.question.specs.Question.{Answer, given, refused, Worked, worked, after, bind, verdict}
 use Rattle.record.specs.Kind.{read}
@@ -49,16 +51,23 @@ makeRows =
     ∷ refuses 4 (made 1 2 1 1000001 4)
     ∷ []
 
--- ── delivery and step, of a replica with a last local time and so many pending requests ──
+-- ── delivery and step, of a replica with a last local time and so many pending requests of each group ──
 
-abbrev replica : ℕ → ℕ → State
-replica last count = record {
+abbrev replica : ℕ → (ℕ → ℕ) → State
+replica last counts = record {
   settings = settings;
   number = 1;
   store = newStore;
-  pending = replicate count (record { request = asked 1 1 10 4; arrival = record { 0 = last } });
+  pending = λ group. replicate (counts group) (record { request = asked group 1 10 4; arrival = record { 0 = last } });
   last = record { 0 = last };
 }
+
+-- so many of group 1, and so many of each other group
+abbrev waiting : ℕ → ℕ → ℕ → ℕ
+waiting own others group = cond (eqb group 1) own others
+
+abbrev idle : ℕ → State
+idle last = replica last (waiting 0 0)
 
 -- a read that fails question 11 alone
 abbrev valued : Request
@@ -68,29 +77,41 @@ valued = record { kind = read; group = 1; process = 1; variable = 4; timestamp =
 abbrev handed : State → Request → ℕ → Answer State
 handed s r now = deliver s (bytesOf (requestFields r)) (record { 0 = now })
 
-abbrev delivered : ℕ → ℕ → ℕ → Answer State
-delivered last count now = handed (replica last count) (asked 1 1 10 4) now
+-- of a read of group 1, or of another
+abbrev delivered : ℕ → ℕ → Answer State
+delivered last now = handed (idle last) (asked 1 1 10 4) now
+
+abbrev sent : ℕ → ℕ → ℕ → Answer State
+sent own others group = handed (replica 100 (waiting own others)) (asked group 1 10 4) 100
 
 abbrev turned : ℕ → ℕ → ℕ → Answer Stepped
-turned last now room = step (replica last 0) (record { 0 = now }) (replicate room 0)
+turned last now room = step (idle last) (record { 0 = now }) (replicate room 0)
 
 abbrev callRows : List Row
 callRows =
-    -- the earliest and the latest local time; the last one again; places for 64
-    accepts (delivered 0 0 0)
-    ∷ accepts (delivered 0 0 (2 ^ 62))
-    ∷ refuses 12 (delivered 0 0 (2 ^ 62 + 1))
-    ∷ accepts (delivered 100 0 100)
-    ∷ refuses 13 (delivered 100 0 99)
-    ∷ accepts (delivered 100 63 100)
-    ∷ refuses 14 (delivered 100 64 100)
+    -- the earliest and the latest local time; the last one again
+    accepts (delivered 0 0)
+    ∷ accepts (delivered 0 (2 ^ 62))
+    ∷ refuses 12 (delivered 0 (2 ^ 62 + 1))
+    ∷ accepts (delivered 100 100)
+    ∷ refuses 13 (delivered 100 99)
+    -- places for 16 of the sender's group, whatever the others have
+    ∷ accepts (sent 15 0 1)
+    ∷ refuses 14 (sent 16 0 1)
+    ∷ accepts (sent 15 16 1)
+    ∷ accepts (sent 0 16 1)
+    ∷ accepts (sent 16 15 2)
+    ∷ refuses 14 (sent 0 16 2)
+    -- a step at 106 frees them
+    ∷ accepts (bind (step (replica 100 (waiting 16 0)) (record { 0 = 106 }) (replicate 1608 0)) (λ d. handed (d .state) (asked 1 1 10 4) 106))
+    ∷ refuses 14 (bind (step (replica 100 (waiting 16 0)) (record { 0 = 105 }) (replicate 1608 0)) (λ d. handed (d .state) (asked 1 1 10 4) 105))
     -- the request questions, with the replica's own N and k
-    ∷ refuses 8 (handed (replica 0 0) (asked 3 1 10 4) 100)
-    ∷ refuses 9 (handed (replica 0 0) (asked 1 3 10 4) 100)
+    ∷ refuses 8 (handed (idle 0) (asked 3 1 10 4) 100)
+    ∷ refuses 9 (handed (idle 0) (asked 1 3 10 4) 100)
     -- and they come before 12, 12 before 13, 13 before 14
-    ∷ refuses 11 (handed (replica 0 0) valued (2 ^ 62 + 1))
-    ∷ refuses 12 (delivered (2 ^ 62 + 2) 0 (2 ^ 62 + 1))
-    ∷ refuses 13 (delivered 100 64 99)
+    ∷ refuses 11 (handed (idle 0) valued (2 ^ 62 + 1))
+    ∷ refuses 12 (delivered (2 ^ 62 + 2) (2 ^ 62 + 1))
+    ∷ refuses 13 (handed (replica 100 (waiting 16 0)) (asked 1 1 10 4) 99)
     -- the same of a step; room for 67 records
     ∷ accepts (turned 0 0 1608)
     ∷ accepts (turned 0 (2 ^ 62) 1608)
@@ -102,9 +123,9 @@ callRows =
     ∷ refuses 12 (turned (2 ^ 62 + 2) (2 ^ 62 + 1) 1608)
     ∷ refuses 13 (turned 100 99 1607)
     -- a delivery and a step leave their local time as the last one, a refused call does not
-    ∷ refuses 13 (bind (delivered 0 0 100) (λ s. handed s (asked 1 1 10 4) 99))
+    ∷ refuses 13 (bind (delivered 0 100) (λ s. handed s (asked 1 1 10 4) 99))
     ∷ refuses 13 (bind (turned 0 100 1608) (λ d. handed (d .state) (asked 1 1 10 4) 99))
-    ∷ accepts (handed (after (replica 0 0) (handed (replica 0 0) (asked 3 1 10 4) 100)) (asked 1 1 10 4) 99)
+    ∷ accepts (handed (after (idle 0) (handed (idle 0) (asked 3 1 10 4) 100)) (asked 1 1 10 4) 99)
     ∷ []
 
 abbrev pub rows : List Row

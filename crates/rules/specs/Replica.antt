@@ -1,6 +1,6 @@
 -- The replica (document 01's storage card, Schneider's s-process): its state, and the three calls with their questions.
 use Prim.Native.Nat.{ℕ, zero, suc, _+_, _*_, min}
-use mathlib.Core.Bool.{Bool, false, cond, not, _&&_}
+use mathlib.Core.Bool.{Bool, false, cond, not}
 use mathlib.Core.List.{List, [], _∷_, _++_, map}
 use lib.Dec.{eqb, leb, ltb}
 use lib.ListN.{length, take, drop}
@@ -21,8 +21,10 @@ pub record State : Type 0 where
   -- its own number among the replicas
   pub number : ℕ
   pub store : Store
-  -- document 01's shelf: the accepted, unhandled requests in order of arrival
-  pub pending : List Pending
+  -- document 02's shelf for each group: its queue of accepted, unhandled requests, in order of arrival. A request counts as of the
+  -- group in whose queue it stands, and a reply to it goes to the group that it names; in a replica that was made the two are one: the
+  -- law `run-sound`
+  pub pending : ℕ → List Pending
   -- the last accepted local time, of a delivery or a step
   pub last : LocalTime
 
@@ -30,11 +32,21 @@ pub record State : Type 0 where
 abbrev pub withStore : Store → State → State
 withStore store s = record { settings = s .settings; number = s .number; store = store; pending = s .pending; last = s .last }
 
-abbrev pub withPending : List Pending → State → State
-withPending pending s = record { settings = s .settings; number = s .number; store = s .store; pending = pending; last = s .last }
+-- the queues, that of one group replaced
+abbrev pub replace : ℕ → List Pending → (ℕ → List Pending) → ℕ → List Pending
+replace group queue pending g = cond (eqb g group) queue (pending g)
+
+abbrev pub withQueue : ℕ → List Pending → State → State
+withQueue group queue s =
+    record { settings = s .settings; number = s .number; store = s .store; pending = replace group queue (s .pending); last = s .last }
 
 abbrev pub atTime : LocalTime → State → State
 atTime now s = record { settings = s .settings; number = s .number; store = s .store; pending = s .pending; last = now }
+
+-- how many requests of groups 1 to n are pending
+abbrev pub pendingIn : ℕ → (ℕ → List Pending) → ℕ
+pendingIn zero pending = 0
+pendingIn (suc n) pending = pendingIn n pending + length (pending (suc n))
 
 -- ── making ──
 
@@ -51,7 +63,7 @@ abbrev pub makeQuestions : Settings → ℕ → List Question
 makeQuestions u number = settingsQuestions u ++ ((within 1 (2 * u .k + 1) number else 5) ∷ [])
 
 abbrev pub newState : Settings → ℕ → State
-newState u number = record { settings = u; number = number; store = newStore; pending = []; last = record { 0 = 0 } }
+newState u number = record { settings = u; number = number; store = newStore; pending = λ group. []; last = record { 0 = 0 } }
 
 unfoldable pub make : Settings → ℕ → Answer State
 make u number = ask (makeQuestions u number) (given (newState u number))
@@ -62,7 +74,7 @@ make u number = ask (makeQuestions u number) (given (newState u number))
 abbrev pub timeQuestions : LocalTime → LocalTime → List Question
 timeQuestions last now = (leb (now .0) maxTime else 12) ∷ (leb (last .0) (now .0) else 13) ∷ []
 
--- then whether there is a place
+-- then whether there is a place, where the sender's group has so many pending
 abbrev pub placeQuestions : LocalTime → ℕ → LocalTime → List Question
 placeQuestions last count now = timeQuestions last now ++ ((ltb count places else 14) ∷ [])
 
@@ -70,11 +82,11 @@ placeQuestions last count now = timeQuestions last now ++ ((ltb count places els
 unfoldable pub admit : State → List ℕ → LocalTime → Answer Request
 admit s bytes now =
     bind (readRequest (s .settings .k) (s .settings .groups) bytes)
-    (λ r. ask (placeQuestions (s .last) (length (s .pending)) now) (given r))
+    (λ r. ask (placeQuestions (s .last) (length (s .pending (r .group))) now) (given r))
 
--- the state with one more pending request
+-- the state with one more pending request, the last of its group
 abbrev pub arrive : State → Request → LocalTime → State
-arrive s r now = atTime now (withPending (s .pending ++ (record { request = r; arrival = now } ∷ [])) s)
+arrive s r now = atTime now (withQueue (r .group) (s .pending (r .group) ++ (record { request = r; arrival = now } ∷ [])) s)
 
 unfoldable pub deliver : State → List ℕ → LocalTime → Answer State
 deliver s bytes now = mapAnswer (λ r. arrive s r now) (admit s bytes now)
@@ -100,26 +112,21 @@ least (r ∷ requests) = lowest (r .timestamp) requests
 abbrev pub requestsOf : List Pending → List Request
 requestsOf pending = map (λ p. p .request) pending
 
-abbrev pub ofGroup : ℕ → Pending → Bool
-ofGroup group p = eqb (p .request .group) group
+-- the least timestamp of a queue
+abbrev pub headTimestamp : List Pending → Timestamp
+headTimestamp queue = least (requestsOf queue)
 
-abbrev pub groupTimestamp : ℕ → List Pending → Timestamp
-groupTimestamp group pending = least (requestsOf (keep (ofGroup group) pending))
+-- the requests of a queue with a timestamp
+abbrev pub batchAt : Timestamp → List Pending → List Pending
+batchAt t queue = keep (λ p. stamped t (p .request)) queue
 
--- of a group, with a timestamp
-abbrev pub inBatch : ℕ → Timestamp → Pending → Bool
-inBatch group t p = ofGroup group p && stamped t (p .request)
-
-abbrev pub batchAt : ℕ → Timestamp → List Pending → List Pending
-batchAt group t pending = keep (inBatch group t) pending
-
--- document 01's head: the pending requests of the group with its least timestamp
-abbrev pub batchOf : ℕ → List Pending → List Pending
-batchOf group pending = batchAt group (groupTimestamp group pending) pending
+-- document 01's head: those with the least timestamp
+abbrev pub batchOf : List Pending → List Pending
+batchOf queue = batchAt (headTimestamp queue) queue
 
 -- what stays when they are taken off
-abbrev pub others : ℕ → List Pending → List Pending
-others group pending = keep (λ p. not (inBatch group (groupTimestamp group pending) p)) pending
+abbrev pub others : List Pending → List Pending
+others queue = keep (λ p. not (stamped (headTimestamp queue) (p .request))) queue
 
 abbrev pub earlier : LocalTime → LocalTime → LocalTime
 earlier a b = record { 0 = min (a .0) (b .0) }
@@ -136,26 +143,42 @@ isStable delta now (p ∷ batch) = ltb (earliest (p .arrival) batch .0 + delta) 
 
 -- ── a step (document 01's turn): one pass of Figure 1's major loop ──
 
--- the group's batch is taken off and handled
-unfoldable pub handleBatch : ℕ → State → Effect State
-handleBatch group s =
-    let t = groupTimestamp group (s .pending) in
-    let done = handle (s .settings) (s .number) group t (requestsOf (batchOf group (s .pending))) (s .store) in
-    record { state = withPending (others group (s .pending)) (withStore (done .state) s); sent = done .sent }
+-- what the visit of a group works on: the store, and the group's queue
+pub record Part : Type 0 where
+  pub store : Store
+  pub queue : List Pending
 
--- the visit of a group: while its batch is stable, that batch is handled. Each handled batch takes a request off or more, so as many
--- looks as there are pending requests are enough: the law `visit-settles` says that no stable batch is left
-unfoldable pub visit : ℕ → LocalTime → ℕ → State → Effect State
-visit group now zero s = still s
-visit group now (suc looks) s =
-    cond (isStable (s .settings .delta) now (batchOf group (s .pending)))
-    (follow (handleBatch group s) (λ t. visit group now looks t))
-    (still s)
+abbrev pub partOf : ℕ → State → Part
+partOf group s = record { store = s .store; queue = s .pending group }
+
+abbrev pub withPart : ℕ → Part → State → State
+withPart group part s = withQueue group (part .queue) (withStore (part .store) s)
+
+-- the group's batch is taken off and handled
+unfoldable pub handleBatch : Settings → ℕ → ℕ → Part → Effect Part
+handleBatch u replica group part =
+    let done = handle u replica group (headTimestamp (part .queue)) (requestsOf (batchOf (part .queue))) (part .store) in
+    record { state = record { store = done .state; queue = others (part .queue) }; sent = done .sent }
+
+-- while the group's batch is stable, it is handled. Each handled batch takes a request off or more, so as many looks as the queue has
+-- requests are enough: the law `visit-settles` says that no stable batch is left
+unfoldable pub visit : Settings → ℕ → ℕ → LocalTime → ℕ → Part → Effect Part
+visit u replica group now zero part = still part
+visit u replica group now (suc looks) part =
+    cond (isStable (u .delta) now (batchOf (part .queue)))
+    (follow (handleBatch u replica group part) (λ next. visit u replica group now looks next))
+    (still part)
+
+-- the visit of a group, in a state
+unfoldable pub visitGroup : ℕ → LocalTime → State → Effect State
+visitGroup group now s =
+    let done = visit (s .settings) (s .number) group now (length (s .pending group)) (partOf group s) in
+    record { state = withPart group (done .state) s; sent = done .sent }
 
 -- the visits of groups 1 to n
 unfoldable pub visits : ℕ → LocalTime → State → Effect State
 visits zero now s = still s
-visits (suc n) now s = follow (visits n now s) (λ t. visit (suc n) now (length (t .pending)) t)
+visits (suc n) now s = follow (visits n now s) (λ t. visitGroup (suc n) now t)
 
 -- an output at whose start records stand: how many, and its bytes
 pub record Written : Type 0 where

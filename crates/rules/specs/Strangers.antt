@@ -1,6 +1,8 @@
 -- Steps of replicas that no call makes, as rows: the answer counts the records that stand in the output, and no others are written.
 use Prim.Native.Nat.{ℕ, _*_}
+use mathlib.Core.Bool.{cond}
 use mathlib.Core.List.{List, [], _∷_, map}
+use lib.Dec.{eqb}
 use lib.ListN.{drop, replicate}
 use Rattle.limits.specs.Limits.{recordSize, outputSize}
 use Rattle.question.specs.Question.{Answer, given, mapAnswer}
@@ -25,13 +27,13 @@ pub record Row : Type 0 where
   pub messages : List Message
   pub expected : ℕ
 
--- requests that arrived at 100 are all stable at 106
+-- group 1's queue holds the requests, which arrived at 100 and are all stable at 106
 abbrev stranger : Row → State
 stranger row = record {
   settings = row .settings;
   number = row .number;
   store = newStore;
-  pending = map (λ r. record { request = r; arrival = record { 0 = 100 } }) (row .requests);
+  pending = λ group. map (λ r. record { request = r; arrival = record { 0 = 100 } }) (cond (eqb group 1) (row .requests) []);
   last = record { 0 = 100 };
 }
 
@@ -63,6 +65,10 @@ rows =
     -- N of 5; a replica with the number 4 of 3
     ∷ row 1 5 1 (asked 1 1 10 4 ∷ []) [] 0
     ∷ row 1 2 4 (asked 1 1 10 4 ∷ []) [] 0
+    -- no groups: none is visited
+    ∷ row 1 0 1 (asked 1 1 10 4 ∷ []) [] 0
+    -- a request of group 2 in group 1's queue counts as the owner's: it writes 7 with one of group 1. The read is answered to the group that it names
+    ∷ row 1 2 1 (wrote 2 1 10 7 ∷ wrote 1 2 10 7 ∷ asked 2 1 20 4 ∷ []) (replyWith 7 1 (asked 2 1 20 4) ∷ []) 1
     -- k = 0 has no process 2: its reply leaves no gap
     ∷ row 0 2 1 (asked 1 2 10 4 ∷ asked 1 1 10 4 ∷ asked 1 2 20 4 ∷ asked 1 1 20 4 ∷ []) (replyWith 0 1 (asked 1 1 10 4) ∷ replyWith 0 1 (asked 1 1 20 4) ∷ []) 2
     ∷ []

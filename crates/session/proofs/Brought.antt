@@ -10,7 +10,7 @@ use Rattle.record.specs.declared.request.Request.{Request}
 use Rattle.rules.specs.Replica.{State, newState, make, step}
 use Rattle.rules.specs.Run.{Call, call, run}
 use Rattle.rules.specs.Sample.{deliverAt, stepAt}
-use Rattle.delivery.specs.Made.{blankState}
+use Rattle.state.specs.Made.{blankState}
 use Rattle.unit.proofs.Lives.{stepped-state}
 use Rattle.session.specs.Session.{unit, choices, requestsFor, session, figuresIn, figuresOf}
 use Rattle.session.proofs.Fed.{sessionCalls, fed-lent, fed-orderly, fed-made}

@@ -6,7 +6,7 @@ use Rattle.layout.specs.Number.{number, digits}
 use Rattle.layout.specs.Layout.{fieldsOf, bytesOf}
 use Rattle.record.specs.Record.{fieldQuestions, readFields, writeFields}
 use Rattle.rules.specs.Batch.{verdictOf, handle}
-use Rattle.rules.specs.Replica.{newState, admit, deliver, handleBatch, visit, visits, put, putAll, stepped, step}
+use Rattle.rules.specs.Replica.{newState, admit, deliver, handleBatch, visit, visitGroup, visits, put, putAll, stepped, step}
 use Rattle.rules.specs.Run.{messagesIn, call, run}
 use Rattle.rules.specs.Machine.{react, reactAll, machine}
 use Rattle.session.proofs.Fed.{sessionCalls}
@@ -14,5 +14,5 @@ use Rattle.session.proofs.Brought.{delta}
 use Rattle.session.specs.Session.{unit, allPlaces, figuresIn, figuresOf}
 
 pub figures-checked : map (λ place. figuresIn (run (newState (unit delta) 1) (sessionCalls delta place) .state .store)) allPlaces ≡ map figuresOf allPlaces
-unfolding ask unitQuestions number digits fieldsOf bytesOf fieldQuestions readFields writeFields verdictOf handle admit deliver handleBatch visit visits put putAll stepped step messagesIn call run react reactAll machine figuresOf
+unfolding ask unitQuestions number digits fieldsOf bytesOf fieldQuestions readFields writeFields verdictOf handle admit deliver handleBatch visit visitGroup visits put putAll stepped step messagesIn call run react reactAll machine figuresOf
 figures-checked = refl

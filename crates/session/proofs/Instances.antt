@@ -17,7 +17,7 @@ use Rattle.rules.specs.Sample.{wroteTo, deliverAt, stepAt}
 use Rattle.failstop.specs.Suppose.{Correct}
 use Rattle.failstop.specs.Runs.{accountOf}
 use Rattle.failstop.proofs.Computed.{Computed, computed-ran, computed-supposed}
-use Rattle.batch.specs.State.{stateOf}
+use Rattle.state.specs.State.{stateOf}
 use Rattle.unit.proofs.Lives.{lifeOf}
 use Rattle.session.specs.Session.{unit, session, figuresIn, figuresOf}
 use Rattle.session.specs.Held.{Held}

@@ -18,7 +18,7 @@ use Rattle.failstop.specs.Suppose.{Account, Correct, Orderly, Supposed}
 use Rattle.failstop.specs.Runs.{Lent, Ran, account, accountOf}
 use Rattle.failstop.proofs.Copies.{all-lent}
 use Rattle.failstop.proofs.Demand3.{demand3}
-use Rattle.batch.specs.State.{stateOf}
+use Rattle.state.specs.State.{stateOf}
 use Rattle.unit.specs.Life.{Life}
 use Rattle.unit.proofs.Accounts.{callsOf, life-made, life-account, life-lent}
 use Rattle.unit.proofs.Lives.{lifeOf, life-lived, life-account-is}

@@ -10,7 +10,7 @@ ghost use Rattle.layout.specs.Layout.{bytesOf};
 ghost use Rattle.record.specs.Record.{requestFields, writeRequest};
 ghost use Rattle.rules.specs.Run.{run};
 ghost use Rattle.rules.specs.Sample.{asked, wroteTo, deliverAt};
-ghost use Rattle.batch.specs.State.{stateOf};
+ghost use Rattle.state.specs.State.{stateOf};
 ghost use Rattle.session.specs.Session.{choices, requestsFor, figuresIn, figuresOf};
 use limits::OUTPUT;
 use limits::RECORD;

@@ -12,14 +12,15 @@ use Rattle.question.proofs.Questions.{ask-through}
 use Rattle.rules.specs.Replica.{State, Stepped, newState, makeQuestions, make, admit, deliver, step}
 use Rattle.rules.specs.Run.{Call, delivery, turn, messagesIn, call, run, arrivalOf, arrivals, stepOf, stepTimes}
 use Rattle.rules.specs.declared.Settings.{Settings}
-use Rattle.batch.specs.State.{stateOf}
-use Rattle.batch.specs.declared.state.Replica.{Replica}
+use Rattle.state.specs.State.{stateOf}
+use Rattle.state.specs.declared.state.Replica.{Replica}
 use Rattle.failstop.specs.Runs.{account, Lent}
-use Rattle.delivery.specs.Made.{blankState}
-use Rattle.delivery.proofs.Called.{makes-mean, delivers-mean}
-use Rattle.replica.specs.Answer.{stepAnswer}
-use Rattle.replica.specs.declared.stepping.StepAnswer.{StepAnswer}
-use Rattle.replica.proofs.Called.{steps-mean}
+use Rattle.state.specs.Made.{blankState}
+use Rattle.state.proofs.Called.{makes-mean}
+use Rattle.delivery.proofs.Called.{delivers-mean}
+use Rattle.step.specs.Answer.{stepAnswer}
+use Rattle.step.specs.declared.stepping.StepAnswer.{StepAnswer}
+use Rattle.step.proofs.Called.{steps-mean}
 use Rattle.laws.proofs.Accepted.{admit-admitted}
 use Rattle.laws.proofs.Calls.{LentTo, AllLent, call-settings}
 use Rattle.unit.specs.Life.{Life, Lived, accountIn, Event, delivered, stepped, Does, delivers, steps, Runs, start, then, arrivedIn, stepIn, sentIn, gather}

@@ -13,7 +13,7 @@ use Rattle.rules.specs.Units.{theRead, readBag, readCalls, heard, haltBag, halt
 use Rattle.failstop.specs.Suppose.{Correct}
 use Rattle.failstop.specs.Runs.{accountOf}
 use Rattle.failstop.proofs.Instances.{only, read-ran, read-supposed, heard-authentic, heard-complete, halt-ran, halt-supposed, stops-authentic, stops-complete}
-use Rattle.batch.specs.State.{stateOf}
+use Rattle.state.specs.State.{stateOf}
 use Rattle.ballot.specs.declared.count.VoteAnswer.{VoteAnswer}
 use Rattle.ballot.specs.declared.count.HaltAnswer.{HaltAnswer}
 use Rattle.vote.proofs.Called.{Votes, Counts}

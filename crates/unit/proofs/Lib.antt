@@ -2,6 +2,7 @@ pub mod Accounts
 pub mod Same
 pub mod Unit
 -- what is supposed can be met
+pub mod Structs
 pub mod Lives
 pub mod Instances
 pub mod Edges

@@ -1,13 +1,10 @@
 -- What the theorem supposes of the code can be met: every run of the rules is the life of a replica as the contracts describe it.
-use Prim.Native.Nat.{ℕ, _-_}
+use Prim.Native.Nat.{ℕ}
 use mathlib.Core.Path.{_≡_, refl, sym, ap, subst, _∙_}
 use mathlib.Core.Bool.{Bool}
-use mathlib.Core.List.{List, [], _∷_, _++_, List·Memᴰ·head, List·Memᴰ·tail}
+use mathlib.Core.List.{List, [], _∷_, flatMap, List·Memᴰ·head, List·Memᴰ·tail}
 use native.Mathlib.Omega.{arith}
-use lib.ListN.{length, replicate}
-use lib.Seq.{take-at}
 use denote.Ref.{RefT}
-use Rattle.limits.specs.Limits.{places}
 use Rattle.question.specs.Question.{Answer, given, refused, after, mapAnswer, verdict, outcome}
 use Rattle.question.specs.declared.Outcome.{Outcome}
 use Rattle.layout.specs.declared.clock.LocalTime.{LocalTime}
@@ -15,34 +12,21 @@ use Rattle.record.specs.declared.request.Request.{Request}
 use Rattle.rules.specs.Replica.{State, Stepped, newState, make, deliver, step}
 use Rattle.rules.specs.Run.{Call, delivery, turn, sentBy, call, run}
 use Rattle.rules.specs.declared.Settings.{Settings}
-use Rattle.laws.proofs.Calls.{LentTo, AllLent}
+use Rattle.laws.proofs.Accepted.{Made, make-made}
+use Rattle.laws.proofs.Sound.{Sound, new-sound}
+use Rattle.laws.proofs.Calls.{LentTo, AllLent, call-sound}
 use Rattle.failstop.specs.Suppose.{Correct, Supposed}
 use Rattle.failstop.specs.Runs as rules
 use Rattle.failstop.proofs.Copies.{all-lent}
-use Rattle.batch.specs.State.{free, stateOf}
-use Rattle.batch.specs.declared.state.Replica.{Replica}
-use Rattle.delivery.specs.Made.{newReplica}
-use Rattle.replica.specs.Answer.{stepAnswer}
-use Rattle.replica.specs.declared.stepping.StepAnswer.{StepAnswer}
+use Rattle.state.specs.State.{stateOf}
+use Rattle.state.specs.Made.{newReplica}
+use Rattle.step.specs.Answer.{stepAnswer}
+use Rattle.step.specs.declared.stepping.StepAnswer.{StepAnswer}
 use Rattle.unit.specs.Life.{Life, Lived, accountIn, Event, delivered, stepped, Does, delivers, steps, Runs, start, then}
 use Rattle.unit.specs.Unit.{accounts, Ran}
 use Rattle.unit.proofs.Accounts.{callOf, callsOf, life-account}
 use Rattle.unit.proofs.Same.{supposed-same}
-
--- ── the struct of a state ──
-
-abbrev replicaOf : State → Replica
-replicaOf s = record {
-  settings = s .settings;
-  number = s .number;
-  last = s .last;
-  variables = s .store .variables;
-  queue = record { pending = s .pending ++ replicate (places - length (s .pending)) free; count = length (s .pending) };
-  writes = s .store .writes;
-}
-
-state-of-struct : (s : State) → stateOf (replicaOf s) ≡ s
-state-of-struct s = rw (take-at (s .pending) (replicate (places - length (s .pending)) free) (length (s .pending)) refl)
+use Rattle.unit.proofs.Structs.{replicaOf, state-of-struct}
 
 -- a lent slice
 abbrev lentAs : List ℕ → RefT (List ℕ)
@@ -61,6 +45,10 @@ answerOf (refused number) = StepAnswer.Refused number
 abbrev eventOf : State → Call → Event
 eventOf s (delivery bytes at) = delivered bytes at (outcomeOf (deliver s bytes at))
 eventOf s (turn at output) = stepped at output (answerOf (step s at output)) (after output (mapAnswer (λ d. d .output) (step s at output)))
+
+abbrev eventsOf : State → List Call → List Event
+eventsOf s [] = []
+eventsOf s (c ∷ calls) = eventOf s c ∷ eventsOf (call s c .state) calls
 
 -- ── one call ──
 
@@ -82,26 +70,30 @@ kept-if-not-stepped : (s : State) (a : Answer Stepped) (q : ℕ) → stepAnswer 
 kept-if-not-stepped s (given d) q e = absurd (let z : _≡_ {A = ℕ} 0 1 = cc in omega arith)
 kept-if-not-stepped s (refused number) q e = refl
 
-delivery-done : (s : State) (bytes : List ℕ) (at : LocalTime) → LentTo (delivery bytes at)
+-- what its struct stands for is the state itself
+abbrev Fits : State → Type 0
+Fits s = stateOf (replicaOf s) ≡ s
+
+delivery-done : (s : State) (bytes : List ℕ) (at : LocalTime) → LentTo (delivery bytes at) → Fits s → Fits (after s (deliver s bytes at))
     → Does (replicaOf s) (replicaOf (after s (deliver s bytes at))) (eventOf s (delivery bytes at))
-delivery-done s bytes at lent =
+delivery-done s bytes at lent before behind =
     let a = deliver s bytes at in
-    let same = sym (state-of-struct s) in
+    let same = sym before in
     delivers lent (record {
       lifetimes = ([], tt);
       slice = lentAs bytes;
       lent = refl;
       learnt = (
         outcome-is a ∙ ap (λ (t : State). verdict (deliver t bytes at)) same,
-        (state-of-struct (after s a) ∙ ap (λ (t : State). after t (deliver t bytes at)) same, kept-if-refused s a),
+        (behind ∙ ap (λ (t : State). after t (deliver t bytes at)) same, kept-if-refused s a),
       );
     })
 
-step-done : (s : State) (at : LocalTime) (output : List ℕ)
+step-done : (s : State) (at : LocalTime) (output : List ℕ) → Fits s → Fits (after s (mapAnswer (λ d. d .state) (step s at output)))
     → Does (replicaOf s) (replicaOf (after s (mapAnswer (λ d. d .state) (step s at output)))) (eventOf s (turn at output))
-step-done s at output =
+step-done s at output before behind =
     let a = step s at output in
-    let same = sym (state-of-struct s) in
+    let same = sym before in
     steps (record {
       lifetimes = ([], tt);
       slice = lentAs output;
@@ -109,7 +101,7 @@ step-done s at output =
       learnt = (
         answer-is a ∙ ap (λ (t : State). mapAnswer (λ d. d .count) (step t at output)) same,
         (
-          state-of-struct (after s (mapAnswer (λ d. d .state) a)) ∙ ap (λ (t : State). after t (mapAnswer (λ d. d .state) (step t at output))) same,
+          behind ∙ ap (λ (t : State). after t (mapAnswer (λ d. d .state) (step t at output))) same,
           (ap (λ (t : State). after output (mapAnswer (λ d. d .output) (step t at output))) same, kept-if-not-stepped s a),
         ),
       );
@@ -119,27 +111,33 @@ pub stepped-state : (s : State) (a : Answer Stepped) → after s (mapAnswer (λ 
 stepped-state s (given d) = refl
 stepped-state s (refused number) = refl
 
-call-done : (s : State) (c : Call) → LentTo c → Does (replicaOf s) (replicaOf (call s c .state)) (eventOf s c)
-unfolding call
-call-done s (delivery bytes at) lent = delivery-done s bytes at lent
-call-done s (turn at output) lent =
-    subst (λ (t : State). Does (replicaOf s) (replicaOf t) (eventOf s (turn at output))) (stepped-state s (step s at output)) (step-done s at output)
-
 call-of-event : (s : State) (c : Call) → callOf (eventOf s c) ≡ c
 call-of-event s (delivery bytes at) = refl
 call-of-event s (turn at output) = refl
 
+-- ── of a replica that was made ──
+
+module _ (u : Settings) (number : ℕ) (ok : Made u number) where
+  call-done : (s : State) (c : Call) → Sound u number s → LentTo c → Does (replicaOf s) (replicaOf (call s c .state)) (eventOf s c)
+  unfolding call
+  call-done s c h lent = go c lent (state-of-struct u number ok s h) (state-of-struct u number ok (call s c .state) (call-sound u number ok s c h lent))
+    where
+      go : (c : Call) → LentTo c → Fits s → Fits (call s c .state) → Does (replicaOf s) (replicaOf (call s c .state)) (eventOf s c)
+      go (delivery bytes at) lent before behind = delivery-done s bytes at lent before behind
+      go (turn at output) lent before behind =
+          let same = stepped-state s (step s at output) in
+          subst (λ (t : State). Does (replicaOf s) (replicaOf t) (eventOf s (turn at output))) same
+          (step-done s at output before (subst Fits (sym same) behind))
+
+  calls-done : (calls : List Call) (s : State) → Sound u number s → AllLent calls
+      → Runs (replicaOf s) (eventsOf s calls) (replicaOf (run s calls .state))
+  unfolding run
+  calls-done [] s h lent = start
+  calls-done (c ∷ calls) s h lent =
+      let first = lent c (List·Memᴰ·head refl) in
+      then (call-done s c h first) (calls-done calls (call s c .state) (call-sound u number ok s c h first) (λ x i. lent x (List·Memᴰ·tail i)))
+
 -- ── a whole life ──
-
-abbrev eventsOf : State → List Call → List Event
-eventsOf s [] = []
-eventsOf s (c ∷ calls) = eventOf s c ∷ eventsOf (call s c .state) calls
-
-calls-done : (calls : List Call) (s : State) → AllLent calls → Runs (replicaOf s) (eventsOf s calls) (replicaOf (run s calls .state))
-unfolding run
-calls-done [] s lent = start
-calls-done (c ∷ calls) s lent =
-    then (call-done s c (lent c (List·Memᴰ·head refl))) (calls-done calls (call s c .state) (λ x i. lent x (List·Memᴰ·tail i)))
 
 calls-of-events : (calls : List Call) (s : State) → callsOf (eventsOf s calls) ≡ calls
 calls-of-events [] s = refl
@@ -156,14 +154,18 @@ lifeOf u number calls =
 
 pub life-lived : (u : Settings) (number : ℕ) (calls : List Call) → make u number ≡ given (newState u number) → AllLent calls
     → Lived u number (lifeOf u number calls)
-life-lived u number calls made lent = record {
-  makes = record {
-    lifetimes = tt;
-    learnt = rw made (refl, (refl, λ q e. absurd (let z : _≡_ {A = ℕ} 0 1 = cc in omega arith)));
-  };
-  accepted = refl;
-  runs = calls-done calls (newState u number) lent;
-}
+unfolding flatMap
+life-lived u number calls made lent =
+    let ok = make-made u number made in
+    let new = new-sound u number in
+    record {
+      makes = record {
+        lifetimes = tt;
+        learnt = rw made (refl, (state-of-struct u number ok (newState u number) new, λ q e. absurd (let z : _≡_ {A = ℕ} 0 1 = cc in omega arith)));
+      };
+      accepted = refl;
+      runs = calls-done u number ok calls (newState u number) new lent;
+    }
 
 -- and it gives the account of the run
 pub life-account-is : (u : Settings) (number : ℕ) (calls : List Call) → make u number ≡ given (newState u number) → AllLent calls

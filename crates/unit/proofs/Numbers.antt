@@ -13,15 +13,16 @@ use Rattle.rules.specs.Numbers.{makeNumbers, deliverNumbers, stepNumbers, voteN
 use Rattle.rules.specs.declared.Query.{Query}
 use Rattle.rules.specs.declared.Settings.{Settings}
 use Rattle.rules.proofs.Numbers.{make-numbers, deliver-numbers, step-numbers, vote-numbers, halt-count-numbers}
-use Rattle.batch.specs.State.{stateOf}
-use Rattle.batch.specs.declared.state.Replica.{Replica}
-use Rattle.delivery.specs.declared.making.Made.{Made}
+use Rattle.state.specs.State.{stateOf}
+use Rattle.state.specs.declared.state.Replica.{Replica}
+use Rattle.state.specs.declared.making.Made.{Made}
 use Rattle.delivery.specs.declared.delivery.Delivered.{Delivered}
-use Rattle.delivery.proofs.Called.{Makes, makes-mean, Delivers, delivers-mean}
-use Rattle.replica.specs.Answer.{stepAnswer}
-use Rattle.replica.specs.declared.stepping.StepAnswer.{StepAnswer}
-use Rattle.replica.specs.declared.stepping.Stepped.{Stepped}
-use Rattle.replica.proofs.Called.{Steps, steps-mean}
+use Rattle.state.proofs.Called.{Makes, makes-mean}
+use Rattle.delivery.proofs.Called.{Delivers, delivers-mean}
+use Rattle.step.specs.Answer.{stepAnswer}
+use Rattle.step.specs.declared.stepping.StepAnswer.{StepAnswer}
+use Rattle.step.specs.declared.stepping.Stepped.{Stepped}
+use Rattle.step.proofs.Called.{Steps, steps-mean}
 use Rattle.ballot.specs.Answers.{voteAnswer, haltAnswer}
 use Rattle.ballot.specs.declared.count.VoteAnswer.{VoteAnswer}
 use Rattle.ballot.specs.declared.count.HaltAnswer.{HaltAnswer}

@@ -11,12 +11,13 @@ use Rattle.rules.specs.Run.{messagesIn, arrived}
 use Rattle.rules.specs.declared.Pending.{Pending}
 use Rattle.rules.specs.declared.Settings.{Settings}
 use Rattle.failstop.specs.Suppose.{Account}
-use Rattle.batch.specs.State.{stateOf}
-use Rattle.batch.specs.declared.state.Replica.{Replica}
-use Rattle.delivery.specs.declared.making.Made.{Made}
-use Rattle.delivery.proofs.Called.{Makes, Delivers}
-use Rattle.replica.specs.declared.stepping.StepAnswer.{StepAnswer}
-use Rattle.replica.proofs.Called.{Steps}
+use Rattle.state.specs.State.{stateOf}
+use Rattle.state.specs.declared.state.Replica.{Replica}
+use Rattle.state.specs.declared.making.Made.{Made}
+use Rattle.state.proofs.Called.{Makes}
+use Rattle.delivery.proofs.Called.{Delivers}
+use Rattle.step.specs.declared.stepping.StepAnswer.{StepAnswer}
+use Rattle.step.proofs.Called.{Steps}
 
 -- ── calls ──
 

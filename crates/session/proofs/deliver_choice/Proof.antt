@@ -5,7 +5,7 @@ use borrow.Author.Tests.{ne-eqb}
 use Rattle.record.specs.declared.request.Request.{Request}
 use Rattle.rules.specs.Run.{run}
 use Rattle.rules.specs.Sample.{deliverAt}
-use Rattle.batch.specs.State.{stateOf}
+use Rattle.state.specs.State.{stateOf}
 use Rattle.session.proofs.Written.{Writes, read-written, write-written}
 use borrow.Author.Needs.{needs}
 use Rattle.session.proofs.deliver_choice.Statement.{statement}

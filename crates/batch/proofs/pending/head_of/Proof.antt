@@ -4,17 +4,18 @@ use mathlib.Core.Path.{_≡_, refl}
 use native.Mathlib.Omega.{arith}
 use lib.ListN.{drop}
 use borrow.Author.Needs.{needs}
-use Rattle.batch.specs.State.{waiting, free}
+use Rattle.state.specs.State.{free}
+use Rattle.queue.specs.Queue.{waiting}
 use Rattle.batch.specs.Head.{headFrom, headIn}
-use Rattle.batch.proofs.Left.{left-next, left-none}
+use Rattle.queue.proofs.Left.{left-next, left-none}
 use Rattle.batch.proofs.pending.head_of.Statement.{statement}
 use Rattle.batch.proofs.pending.head_of.Tie as tie
 
 abbrev Inv-loop : tie.InvT-loop
-Inv-loop group r n h₀ i₀ h i = (i ≤ n) × (headFrom group h (drop i (waiting r)) ≡ headIn group (waiting r))
+Inv-loop q n h₀ i₀ h i = (i ≤ n) × (headFrom h (drop i (waiting q)) ≡ headIn (waiting q))
 
 abbrev μ-loop : tie.MeasureT-loop
-μ-loop group r n h₀ i₀ h i = n - i
+μ-loop q n h₀ i₀ h i = n - i
 
 pending-count-requires : tie.Need-pending-count-requires Inv-loop μ-loop
 pending-count-requires c κs = search needs
@@ -41,15 +42,15 @@ loop-again : tie.Need-loop-again Inv-loop μ-loop
 unfolding headFrom
 loop-again c =
     let l = c .before .before .before in
-    let r = l .before .before .args .t1 in
-    let next = left-next (r .count) (r .pending) (l .loop .i) free (omega (arith, l .before .pending-count .ensures .0)) in
+    let q = l .before .before .args .t1 in
+    let next = left-next (q .count) (q .pending) (l .loop .i) free (omega (arith, l .before .pending-count .ensures .0)) in
     (omega arith, rw (c .meet .ensures) (rw next at (l .loop .inv .1)))
 
 returns : tie.Need-returns Inv-loop μ-loop
 unfolding headFrom
 returns c =
-    let r = c .before .before .before .args .t1 in
-    rw (left-none (r .count) (r .pending) (c .before .loop .i) (omega (arith, c .before .before .pending-count .ensures .0))) at (c .before .loop .inv .1)
+    let q = c .before .before .before .args .t1 in
+    rw (left-none (q .count) (q .pending) (c .before .loop .i) (omega (arith, c .before .before .pending-count .ensures .0))) at (c .before .loop .inv .1)
 
 pub head-of-spec : {M : Type 1} → statement M
 head-of-spec =

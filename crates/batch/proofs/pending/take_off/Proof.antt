@@ -9,23 +9,24 @@ use lib.ListN.{length, getD, take, drop, length-set, length-map}
 use borrow.Author.Needs.{needs}
 use Rattle.rules.specs.Lists.{keep}
 use Rattle.rules.specs.declared.Pending.{Pending}
-use Rattle.batch.specs.State.{waiting, free}
-use Rattle.rules.specs.Replica.{inBatch}
-use Rattle.batch.proofs.Left.{left-next, left-none}
+use Rattle.state.specs.State.{free}
+use Rattle.queue.specs.Queue.{waiting}
+use Rattle.rules.specs.Replica.{stamped}
+use Rattle.queue.proofs.Left.{left-next, left-none}
 use Rattle.batch.proofs.Compact.{next-same, rest-same, rest-left, front-next}
 use Rattle.batch.proofs.pending.take_off.Statement.{statement}
 use Rattle.batch.proofs.pending.take_off.Tie as tie
 
 abbrev Inv-loop : tie.InvT-loop
-Inv-loop group t n next₀ kept₀ i₀ next kept i =
+Inv-loop t n next₀ kept₀ i₀ next kept i =
     (i ≤ n)
     × (kept ≤ i)
-    × (length (next .pending) ≡ 64)
+    × (length (next .pending) ≡ 16)
     × (drop i (next .pending) ≡ drop i (next₀ .pending))
-    × (take kept (next .pending) ++ keep (λ p. not (inBatch group t p)) (drop i (waiting next₀)) ≡ keep (λ p. not (inBatch group t p)) (waiting next₀))
+    × (take kept (next .pending) ++ keep (λ p. not (stamped t (p .request))) (drop i (waiting next₀)) ≡ keep (λ p. not (stamped t (p .request))) (waiting next₀))
 
 abbrev μ-loop : tie.MeasureT-loop
-μ-loop group t n next₀ kept₀ i₀ next kept i = n - i
+μ-loop t n next₀ kept₀ i₀ next kept i = n - i
 
 pending-count-requires : tie.Need-pending-count-requires Inv-loop μ-loop
 pending-count-requires c κs = search needs
@@ -67,7 +68,7 @@ loop-again c =
     let i = l .loop .i in
     let kept = l .loop .kept in
     let inv = l .loop .inv in
-    let stays : Pending → Bool = λ p. not (inBatch (a .group) (a .t) p) in
+    let stays : Pending → Bool = λ p. not (stamped (a .t) (p .request)) in
     let p = getD m i free in
     let same = next-same (a .q .pending) m i (inv .3) free in
     let next = left-next (a .q .count) (a .q .pending) i free (omega (arith, l .before .pending-count .ensures .0)) in
@@ -97,8 +98,7 @@ returns c =
     let l = c .before in
     let q = l .before .before .args .q in
     let none = left-none (q .count) (q .pending) (l .loop .i) (omega (arith, l .before .pending-count .ensures .0)) in
-    let front = sym (append-nil (take (l .loop .kept) (l .loop .next .pending))) ∙ (rw none at (l .loop .inv .4)) in
-    front
+    sym (append-nil (take (l .loop .kept) (l .loop .next .pending))) ∙ (rw none at (l .loop .inv .4))
 
 pub take-off-spec : {M : Type 1} → statement M
 take-off-spec =

@@ -6,18 +6,19 @@ use native.Mathlib.Omega.{arith}
 use lib.ListN.{getD, drop}
 use borrow.Author.Needs.{needs}
 use Rattle.rules.specs.Batch.{allReads}
-use Rattle.batch.specs.State.{waiting, free}
+use Rattle.state.specs.State.{free}
+use Rattle.queue.specs.Queue.{waiting}
 use Rattle.batch.specs.Head.{requestsAt}
-use Rattle.batch.proofs.Left.{left-next, left-none}
+use Rattle.queue.proofs.Left.{left-next, left-none}
 use Rattle.batch.proofs.Agree.{reads-step}
 use Rattle.batch.proofs.unanimity.all_reads.Statement.{statement}
 use Rattle.batch.proofs.unanimity.all_reads.Tie as tie
 
 abbrev Inv-loop : tie.InvT-loop
-Inv-loop group t r n all₀ i₀ all i = (i ≤ n) × (all && allReads (requestsAt group t (drop i (waiting r))) ≡ allReads (requestsAt group t (waiting r)))
+Inv-loop t q n all₀ i₀ all i = (i ≤ n) × (all && allReads (requestsAt t (drop i (waiting q))) ≡ allReads (requestsAt t (waiting q)))
 
 abbrev μ-loop : tie.MeasureT-loop
-μ-loop group t r n all₀ i₀ all i = n - i
+μ-loop t q n all₀ i₀ all i = n - i
 
 pending-count-requires : tie.Need-pending-count-requires Inv-loop μ-loop
 pending-count-requires c κs = search needs
@@ -47,17 +48,17 @@ loop-again : tie.Need-loop-again Inv-loop μ-loop
 loop-again c =
     let l = c .before .before .before .before .before in
     let a = l .before .before .args in
-    let r = a .t1 in
-    let p = getD (r .pending) (l .loop .i) free in
-    let rest = drop (l .loop .i + 1) (waiting r) in
-    let next = left-next (r .count) (r .pending) (l .loop .i) free (omega (arith, l .before .pending-count .ensures .0)) in
-    let seen = reads-step (a .group) (a .t) p rest (l .loop .all) ∙ (rw next at (l .loop .inv .1)) in
+    let q = a .t1 in
+    let p = getD (q .pending) (l .loop .i) free in
+    let rest = drop (l .loop .i + 1) (waiting q) in
+    let next = left-next (q .count) (q .pending) (l .loop .i) free (omega (arith, l .before .pending-count .ensures .0)) in
+    let seen = reads-step (a .t) p rest (l .loop .all) ∙ (rw next at (l .loop .inv .1)) in
     (omega arith, rw (c .is-read .ensures, c .before .in-batch .ensures) seen)
 
 returns : tie.Need-returns Inv-loop μ-loop
 returns c =
-    let r = c .before .before .before .args .t1 in
-    let none = left-none (r .count) (r .pending) (c .before .loop .i) (omega (arith, c .before .before .pending-count .ensures .0)) in
+    let q = c .before .before .before .args .t1 in
+    let none = left-none (q .count) (q .pending) (c .before .loop .i) (omega (arith, c .before .before .pending-count .ensures .0)) in
     sym (and-true (c .before .loop .all)) ∙ (rw none at (c .before .loop .inv .1))
 
 pub all-reads-spec : {M : Type 1} → statement M

@@ -1,5 +1,5 @@
 -- No request passed is of the batch, so the batch is what is left of it.
-use Prim.Native.Nat.{ℕ, _+_, _≤_, _-_}
+use Prim.Native.Nat.{_+_, _≤_, _-_}
 use mathlib.Core.Path.{_≡_, refl, sym, ap, _∙_}
 use mathlib.Core.Bool.{true}
 use mathlib.Core.List.{List, _∷_}
@@ -8,19 +8,20 @@ use lib.ListN.{drop}
 use borrow.Author.Needs.{needs}
 use Rattle.layout.specs.declared.clock.Timestamp.{Timestamp}
 use Rattle.rules.specs.Batch.{firstOf}
-use Rattle.rules.specs.Replica.{inBatch}
+use Rattle.rules.specs.Replica.{stamped}
 use Rattle.rules.specs.declared.Pending.{Pending}
-use Rattle.batch.specs.State.{waiting, free}
+use Rattle.state.specs.State.{free}
+use Rattle.queue.specs.Queue.{waiting}
 use Rattle.batch.specs.Head.{requestsAt}
-use Rattle.batch.proofs.Left.{left-next, left-none}
+use Rattle.queue.proofs.Left.{left-next, left-none}
 use Rattle.batch.proofs.unanimity.first_of.Statement.{statement}
 use Rattle.batch.proofs.unanimity.first_of.Tie as tie
 
 abbrev Inv-loop : tie.InvT-loop
-Inv-loop group t r n i₀ i = (i ≤ n) × (requestsAt group t (drop i (waiting r)) ≡ requestsAt group t (waiting r))
+Inv-loop t q n i₀ i = (i ≤ n) × (requestsAt t (drop i (waiting q)) ≡ requestsAt t (waiting q))
 
 abbrev μ-loop : tie.MeasureT-loop
-μ-loop group t r n i₀ i = n - i
+μ-loop t q n i₀ i = n - i
 
 pending-count-requires : tie.Need-pending-count-requires Inv-loop μ-loop
 pending-count-requires c κs = search needs
@@ -38,17 +39,17 @@ in-batch-requires : tie.Need-in-batch-requires Inv-loop μ-loop
 in-batch-requires c κs = search needs
 
 -- a request of the batch comes before those behind it
-first-left : (group : ℕ) (t : Timestamp) (p : Pending) (rest : List Pending) → inBatch group t p ≡ true → p .request ≡ firstOf (requestsAt group t (p ∷ rest))
-first-left group t p rest mine = rw mine
+first-left : (t : Timestamp) (p : Pending) (rest : List Pending) → stamped t (p .request) ≡ true → p .request ≡ firstOf (requestsAt t (p ∷ rest))
+first-left t p rest mine = rw mine
 
 returns : tie.Need-returns Inv-loop μ-loop
 returns c =
     let l = c .before .before .before .before .before in
     let a = l .before .before .args in
-    let r = a .t1 in
-    let next = left-next (r .count) (r .pending) (l .loop .i) free (omega (arith, l .before .pending-count .ensures .0)) in
+    let q = a .t1 in
+    let next = left-next (q .count) (q .pending) (l .loop .i) free (omega (arith, l .before .pending-count .ensures .0)) in
     let mine = sym (c .before .before .in-batch .ensures) ∙ c .before .if1 .taken in
-    first-left (a .group) (a .t) _ (drop (l .loop .i + 1) (waiting r)) mine ∙ ap firstOf (ap (requestsAt (a .group) (a .t)) (sym next) ∙ l .loop .inv .1)
+    first-left (a .t) _ (drop (l .loop .i + 1) (waiting q)) mine ∙ ap firstOf (ap (requestsAt (a .t)) (sym next) ∙ l .loop .inv .1)
 
 add-i : tie.Need-add-i Inv-loop μ-loop
 add-i c = search needs
@@ -59,8 +60,8 @@ loop-less c = search needs
 loop-again : tie.Need-loop-again Inv-loop μ-loop
 loop-again c =
     let l = c .before .before .before .before in
-    let r = l .before .before .args .t1 in
-    let next = left-next (r .count) (r .pending) (l .loop .i) free (omega (arith, l .before .pending-count .ensures .0)) in
+    let q = l .before .before .args .t1 in
+    let next = left-next (q .count) (q .pending) (l .loop .i) free (omega (arith, l .before .pending-count .ensures .0)) in
     (omega arith, rw (next, ← c .before .in-batch .ensures, c .if1 .left) at (l .loop .inv .1))
 
 blank-requires : tie.Need-blank-requires Inv-loop μ-loop
@@ -69,8 +70,8 @@ blank-requires c κs = search needs
 returns-2 : tie.Need-returns-2 Inv-loop μ-loop
 returns-2 c =
     let l = c .before .before in
-    let r = l .before .before .args .t1 in
-    rw (← l .loop .inv .1, left-none (r .count) (r .pending) (l .loop .i) (omega (arith, l .before .pending-count .ensures .0))) (c .blank .ensures)
+    let q = l .before .before .args .t1 in
+    rw (← l .loop .inv .1, left-none (q .count) (q .pending) (l .loop .i) (omega (arith, l .before .pending-count .ensures .0))) (c .blank .ensures)
 
 pub first-of-spec : {M : Type 1} → statement M
 first-of-spec =

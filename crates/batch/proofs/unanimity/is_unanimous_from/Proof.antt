@@ -6,24 +6,25 @@ use native.Mathlib.Nat.{add-zero}
 use native.Mathlib.Omega.{arith}
 use lib.ListN.{length, getD, drop, replicate, length-set}
 use borrow.Author.Needs.{needs}
-use Rattle.batch.specs.State.{waiting, free}
+use Rattle.state.specs.State.{free}
+use Rattle.queue.specs.Queue.{waiting}
 use Rattle.batch.specs.Head.{requestsAt}
-use Rattle.batch.proofs.Left.{left-next, left-none}
+use Rattle.queue.proofs.Left.{left-next, left-none}
 use Rattle.question.proofs.Tests.{byte-one}
 use Rattle.batch.proofs.Agree.{agree, size-step, agree-step, agree-unanimous}
 use Rattle.batch.proofs.unanimity.is_unanimous_from.Statement.{statement}
 use Rattle.batch.proofs.unanimity.is_unanimous_from.Tie as tie
 
 abbrev Inv-loop : tie.InvT-loop
-Inv-loop k group t first r n seen₀ size₀ same₀ i₀ seen size same i =
+Inv-loop k t first q n seen₀ size₀ same₀ i₀ seen size same i =
     (i ≤ n)
     × (length seen ≡ 256)
     × (size ≤ i)
-    × (size + length (requestsAt group t (drop i (waiting r))) ≡ length (requestsAt group t (waiting r)))
-    × (same && agree first seen (requestsAt group t (drop i (waiting r))) ≡ agree first (replicate 256 false) (requestsAt group t (waiting r)))
+    × (size + length (requestsAt t (drop i (waiting q))) ≡ length (requestsAt t (waiting q)))
+    × (same && agree first seen (requestsAt t (drop i (waiting q))) ≡ agree first (replicate 256 false) (requestsAt t (waiting q)))
 
 abbrev μ-loop : tie.MeasureT-loop
-μ-loop k group t first r n seen₀ size₀ same₀ i₀ seen size same i = n - i
+μ-loop k t first q n seen₀ size₀ same₀ i₀ seen size same i = n - i
 
 pending-count-requires : tie.Need-pending-count-requires Inv-loop μ-loop
 pending-count-requires c κs = search needs
@@ -71,19 +72,19 @@ loop-again : tie.Need-loop-again Inv-loop μ-loop
 loop-again c =
     let l = c .before .before .before .before .before .before in
     let a = l .before .before .args in
-    let r = a .t1 in
+    let q = a .t1 in
     let inv = l .loop .inv in
-    let p = getD (r .pending) (l .loop .i) free in
-    let rest = drop (l .loop .i + 1) (waiting r) in
-    let next = left-next (r .count) (r .pending) (l .loop .i) free (omega (arith, l .before .pending-count .ensures .0)) in
+    let p = getD (q .pending) (l .loop .i) free in
+    let rest = drop (l .loop .i + 1) (waiting q) in
+    let next = left-next (q .count) (q .pending) (l .loop .i) free (omega (arith, l .before .pending-count .ensures .0)) in
     let mine = c .before .before .in-batch .ensures in
-    let size = size-step (a .group) (a .t) p rest (l .loop .size) ∙ (rw next at (inv .3)) in (
+    let size = size-step (a .t) p rest (l .loop .size) ∙ (rw next at (inv .3)) in (
       omega arith,
       simp length-set (inv .1),
       omega (arith, byte-one (c .before .before .in-batch .result)),
       rw mine size,
       rw (c .agrees .ensures)
-          (agree-step (a .first) (a .group) (a .t) p rest (l .loop .seen) (omega arith) (l .loop .same) mine (rw mine refl) ∙ (rw next at (inv .4))),
+          (agree-step (a .first) (a .t) p rest (l .loop .seen) (omega arith) (l .loop .same) mine (rw mine refl) ∙ (rw next at (inv .4))),
     )
 
 add-result : tie.Need-add-result Inv-loop μ-loop
@@ -93,11 +94,11 @@ returns : tie.Need-returns Inv-loop μ-loop
 returns c =
     let l = c .before in
     let a = l .before .before .args in
-    let r = a .t1 in
-    let none = left-none (r .count) (r .pending) (l .loop .i) (omega (arith, l .before .pending-count .ensures .0)) in
+    let q = a .t1 in
+    let none = left-none (q .count) (q .pending) (l .loop .i) (omega (arith, l .before .pending-count .ensures .0)) in
     let same = sym (and-true (l .loop .same)) ∙ (rw none at (l .loop .inv .4)) in
     let size = sym (add-zero (l .loop .size)) ∙ (rw none at (l .loop .inv .3)) in
-    agree-unanimous (a .k) (requestsAt (a .group) (a .t) (waiting r)) (rw (l .before .before .pre) at same) (rw size refl)
+    agree-unanimous (a .k) (requestsAt (a .t) (waiting q)) (rw (l .before .before .pre) at same) (rw size refl)
 
 pub is-unanimous-from-spec : {M : Type 1} → statement M
 is-unanimous-from-spec =

@@ -1,28 +1,106 @@
--- The array has 64 elements, so there is a place behind the pending ones.
-use mathlib.Core.Path.{_≡_, sym, _∙_}
-use native.Mathlib.Omega.{arith}
+-- The request is put behind those of its group, in a place of the group's own.
+use Prim.Native.Nat.{ℕ, suc, _+_, _*_, _-_, _<_}
+use mathlib.Core.Path.{_≡_, sym, _∙_, ap}
+use mathlib.Core.List.{List, [], _∷_, _++_}
 use native.Mathlib.Numerals.{add-one}
-use lib.ListN.{length, length-map}
+use native.Mathlib.Omega.{arith}
+use lib.ListN.{length, getD, set, length-map}
 use lib.Seq.{take-suc-set}
 use borrow.Author.Needs.{needs}
+use Rattle.layout.specs.declared.clock.LocalTime.{LocalTime}
+use Rattle.rules.specs.Replica.{State, replace}
+use Rattle.rules.specs.declared.Pending.{Pending}
+use Rattle.state.specs.State.{placesFrom, queueOf}
+use Rattle.state.specs.declared.state.Replica.{Replica}
+use Rattle.state.proofs.Queues.{places-set, places-other, queue-changed}
+use Rattle.queue.proofs.Counts.{count-at, places-long}
 use Rattle.delivery.proofs.delivery.add_pending.Statement.{statement}
 use Rattle.delivery.proofs.delivery.add_pending.Tie as tie
 
-mul-t8 : tie.Need-mul-t8
-mul-t8 c = search needs
+-- one place of a group is set, and counted
+module _ (pending : List Pending) (counts : List ℕ) (i : ℕ) (p : Pending)
+    (long : length pending ≡ 64) (four : length counts ≡ 4) (here : i < 4) (room : getD counts i 0 < 16) where
+  added : queueOf (set pending (16 * i + getD counts i 0) p) (set counts i (getD counts i 0 + 1))
+      ≡ replace (suc i) (queueOf pending counts (suc i) ++ (p ∷ [])) (queueOf pending counts)
+  unfolding queueOf
+  added =
+      let n = getD counts i 0 in
+      let whole = places-long i pending long here in
+      queue-changed pending (set pending (16 * i + n) p) counts i (n + 1) (queueOf pending counts (suc i) ++ (p ∷ [])) (omega arith)
+      (places-other pending i n p room)
+      (rw (places-set pending i n p room, add-one n, take-suc-set (placesFrom i pending) n p (omega (arith, whole))))
 
-element-set-from-queue : tie.Need-element-set-from-queue
-element-set-from-queue c = search needs
+-- the state with these queues, at this time
+abbrev left : Replica → LocalTime → (ℕ → List Pending) → State
+left r at queues =
+    record { settings = r .settings; number = r .number; store = record { variables = r .variables; writes = r .writes }; pending = queues; last = at }
 
-add-queue : tie.Need-add-queue
-add-queue c = search needs
+-- there are 64 places and four counts
+long : (c : tie.Start) → length (c .args .r .pending) ≡ 64
+long c = sym (length-map (c .args .r .pending) _) ∙ c .good .0 .1 .1 .1 .1 .1 .1 .0 .1 .0 .1
+
+four : (c : tie.Start) → length (c .args .r .counts) ≡ 4
+four c = sym (length-map (c .args .r .counts) _) ∙ c .good .0 .1 .1 .1 .1 .1 .1 .1 .0 .1 .0 .1
+
+-- the group has room
+room : (c : tie.Start) → getD (c .args .r .counts) (c .args .request .group - 1) 0 < 16
+room c = omega (arith, c .pre, count-at (c .args .r .counts) (c .args .request .group) (c .pre .0))
+
+cast-i : tie.Need-cast-i
+cast-i c = search needs
+
+sub-i : tie.Need-sub-i
+sub-i c = search needs
+
+mul-n : tie.Need-mul-n
+mul-n c = search needs
+
+array-read-n : tie.Need-array-read-n
+array-read-n c = search needs
+
+mul-place : tie.Need-mul-place
+mul-place c = search needs
+
+add-place : tie.Need-add-place
+add-place c = search (needs, room (c .before .before .before .before))
+
+mul-pending : tie.Need-mul-pending
+mul-pending c = search (needs, room (c .before .before .before .before))
+
+array-set-from-pending : tie.Need-array-set-from-pending
+array-set-from-pending c = search (needs, room (c .before .before .before .before))
+
+add-counts : tie.Need-add-counts
+add-counts c = search (needs, room (c .before .before .before .before))
+
+mul-counts : tie.Need-mul-counts
+mul-counts c = search needs
+
+array-write-counts : tie.Need-array-write-counts
+array-write-counts c = search needs
 
 returns : tie.Need-returns
 returns c =
-    let s = c .before in
-    let q = s .args .r .queue in
-    let long : length (q .pending) ≡ 64 = sym (length-map (q .pending) _) ∙ s .good .0 .1 .1 .1 .1 .1 .1 .0 .1 .1 .0 .1 .0 .1 in
-    rw (add-one (q .count), take-suc-set (q .pending) (q .count) _ (omega arith))
+    let s = c .before .before .before .before in
+    let r = s .args .r in
+    let q = s .args .request in
+    let p : Pending = record { request = q; arrival = s .args .at } in
+    let named : suc (q .group - 1) ≡ q .group = omega (arith, s .pre .0) in
+    ap (left r (s .args .at)) (rw named at (added (r .pending) (r .counts) (q .group - 1) p (long s) (four s) (omega (arith, s .pre)) (room s)))
 
 pub add-pending-spec : {M : Type 1} → statement M
-add-pending-spec = tie.close (tie.spec mul-t8 element-set-from-queue add-queue returns)
+add-pending-spec =
+    tie.close
+    (tie.spec
+    cast-i
+    sub-i
+    mul-n
+    array-read-n
+    mul-place
+    add-place
+    mul-pending
+    array-set-from-pending
+    add-counts
+    mul-counts
+    array-write-counts
+    returns)

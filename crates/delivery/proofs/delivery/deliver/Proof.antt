@@ -2,29 +2,27 @@
 use Prim.Native.Nat.{ℕ}
 use mathlib.Core.Path.{_≡_, refl, sym, ap, _∙_}
 use native.Mathlib.Omega.{arith}
-use lib.ListN.{length, length-map, length-take}
+use lib.ListN.{length, length-map}
 use borrow.Author.Needs.{needs}
 use Rattle.record.specs.Record.{requestAnswer}
 use Rattle.rules.specs.Replica.{admit, deliver}
-use Rattle.batch.specs.State.{stateOf}
-use Rattle.laws.proofs.Accepted.{admit-admitted}
-use Rattle.delivery.proofs.Asked.{place-counted}
+use Rattle.laws.proofs.Accepted.{read-group, admit-admitted}
+use Rattle.state.specs.State.{stateOf}
+use Rattle.delivery.proofs.Asked.{queue-length, admit-counted}
 use Rattle.delivery.proofs.delivery.deliver.Statement.{statement}
 use Rattle.delivery.proofs.delivery.deliver.Tie as tie
 
--- the array has 64 elements
-long : (c : tie.Start) → length (c .args .r .queue .pending) ≡ 64
-long c = sym (length-map (c .args .r .queue .pending) _) ∙ c .good .0 .1 .1 .1 .1 .1 .1 .0 .1 .1 .0 .1 .0 .1
+-- there are 64 places
+long : (c : tie.Start) → length (c .args .r .pending) ≡ 64
+long c = sym (length-map (c .args .r .pending) _) ∙ c .good .0 .1 .1 .1 .1 .1 .1 .0 .1 .0 .1
 
 -- what is admitted is what the rules admit
 admitted : (c : tie.After-admit) →
-    let a = c .before .before .args in
+    let a = c .before .before .before .args in
     requestAnswer (c .admit .result) ≡ admit (stateOf (a .r)) (a .bytes .now) (a .at)
-unfolding admit
 admitted c =
-    let s = c .before .before in
-    let q = s .args .r .queue in
-    rw (c .admit .ensures, place-counted (q .count) (q .pending) (long s))
+    let s = c .before .before .before in
+    c .admit .ensures ∙ admit-counted (s .args .r) (s .args .bytes .now) (s .args .at) (long s)
 
 admit-requires : tie.Need-admit-requires
 admit-requires c κs = search needs
@@ -35,10 +33,11 @@ enum-known-request c = search needs
 add-pending-requires : tie.Need-add-pending-requires
 add-pending-requires c κs =
     let f = c .before .before .before in
-    let s = f .before .before in
-    let found = sym (admitted f) ∙ ap requestAnswer (c .before .request .given .1) in
-    let place = admit-admitted (stateOf (s .args .r)) (s .args .bytes .now) (s .args .at) found .room in
-    omega (arith, long s, simp length-take at place)
+    let s = f .before .before .before in
+    let r = s .args .r in
+    let found = admit-admitted (stateOf r) (s .args .bytes .now) (s .args .at) (sym (admitted f) ∙ ap requestAnswer (c .before .request .given .1)) in
+    let group = read-group (r .settings .k) (r .settings .groups) (s .args .bytes .now) (found .reads) in
+    (group .0, group .1, omega (arith, found .room, queue-length (r .pending) (r .counts) (c .before .request .given .0 .0 .group) (long s) (group .0) (group .1)))
 
 enum-known-number : tie.Need-enum-known-number
 enum-known-number c = search needs

@@ -3,7 +3,7 @@ use mathlib.Core.Path.{_≡_, sym, _∙_}
 use lib.ListN.{take, drop}
 use Rattle.question.specs.Question.{Answer, after, verdict, outcome}
 use Rattle.rules.specs.Replica.{State, deliver}
-use Rattle.batch.specs.State.{stateOf}
+use Rattle.state.specs.State.{stateOf}
 use Rattle.playback.proofs.Plays.{request-part, nothing-sent, refused-next}
 use borrow.Author.Needs.{needs}
 use Rattle.playback.proofs.play.play_delivery.Statement.{statement}

@@ -1,7 +1,7 @@
 -- What an entry does is what its call does.
 use mathlib.Core.Path.{refl, _∙_}
 use Rattle.rules.specs.Replica.{deliver}
-use Rattle.batch.specs.State.{stateOf}
+use Rattle.state.specs.State.{stateOf}
 use lib.ListN.{take, drop}
 use Rattle.playback.specs.Play.{playEntry}
 use Rattle.playback.proofs.Plays.{count-delivered, state-delivered, output-delivered}
