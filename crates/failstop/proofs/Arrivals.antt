@@ -4,14 +4,14 @@ use Prim.Native.Nat.{ℕ, _+_, _≤_}
 use mathlib.Core.Path.{_≡_, refl, sym, ap}
 use mathlib.Core.Logic.{_⊎_, inl, inr, ⊎-elim}
 use mathlib.Core.Bool.{false}
-use mathlib.Core.List.{List, [], _∷_, _++_, List·Memᴰ, List·Memᴰ·head, List·Memᴰ·tail, List·Memᴰ·cases-cons, List·Memᴰ·not-nil, List·Memᴰ·append-cases, List·Memᴰ·eq-of-singleton, Memᴰ·append-left, Memᴰ·append-right}
+use mathlib.Core.List.{List, [], _∷_, _++_, List·Memᴰ, List·Memᴰ·head, List·Memᴰ·tail, List·Memᴰ·cases-cons, List·Memᴰ·not-nil, List·Memᴰ·append-cases, List·Memᴰ·eq-of-singleton, Memᴰ·append-left, Memᴰ·append-right, flatMap}
 use native.Mathlib.Omega.{arith}
 use lib.Dec.{eqb}
 use borrow.Author.Tests.{eqb-true, eqb-false, eq-eqb}
 use Rattle.record.specs.declared.request.Request.{Request}
 use Rattle.rules.specs.declared.Settings.{Settings}
 use Rattle.rules.specs.Replica.{State, stamped, atTime}
-use Rattle.rules.specs.Run.{Call, call, run, arrivalOf, arrivals}
+use Rattle.rules.specs.Run.{Call, Lent, call, run, exchange, arrivalIn, arrivals, exchanges}
 use Rattle.failstop.specs.Suppose.{firstArrival, ArrivalRule}
 use Rattle.rules.specs.declared.Pending.{Pending}
 use Rattle.question.proofs.Tests.{case}
@@ -20,7 +20,7 @@ use Rattle.laws.proofs.Keeps.{visits-keep}
 use Rattle.laws.proofs.Accepted.{Made, Proper}
 use Rattle.laws.proofs.Records.{AllSendable}
 use Rattle.laws.proofs.Sound.{Sound, visits-soundly}
-use Rattle.laws.proofs.Calls.{AllLent, Act, nothing, arrives, steps, at-sound, call-act, call-sound}
+use Rattle.laws.proofs.Calls.{Act, nothing, arrives, steps, at-sound, call-act, call-sound}
 
 -- ── one call ──
 
@@ -34,9 +34,9 @@ pub record Between (u : Settings) (s : State) (c : Call) : Type 0 where
   -- the local time does not fall
   pub last : s .last .0 ≤ call s c .state .last .0
   -- what arrives is accepted last, and is the owner's
-  pub arrival : (p : Pending) → List·Memᴰ p (arrivalOf s c) → (p .arrival .0 ≡ call s c .state .last .0) × Owned u (p .request)
+  pub arrival : (p : Pending) → List·Memᴰ p (arrivalIn u (exchange s c)) → (p .arrival .0 ≡ call s c .state .last .0) × Owned u (p .request)
   -- what is pending after it was pending or has arrived
-  pub pending : (p : Pending) → List·Memᴰ p (call s c .state .pending (u .owner)) → List·Memᴰ p (s .pending (u .owner)) ⊎ List·Memᴰ p (arrivalOf s c)
+  pub pending : (p : Pending) → List·Memᴰ p (call s c .state .pending (u .owner)) → List·Memᴰ p (s .pending (u .owner)) ⊎ List·Memᴰ p (arrivalIn u (exchange s c))
 
 between : {u : Settings} {s : State} {c : Call} → Act u s c → Between u s c
 between {u} {s} {c} (nothing e a) = record {
@@ -87,7 +87,7 @@ LooseRule delta all =
 -- the replica is sound, and the calls to come deliver bytes
 pub record Going (u : Settings) (me : ℕ) (s : State) (calls : List Call) : Type 0 where
   pub sound : Sound u me s
-  pub lent : AllLent calls
+  pub lent : Lent calls
 
 module _ (u : Settings) (me : ℕ) (ok : Made u me) where
   pub first-act : {s : State} {c : Call} {calls : List Call} → Going u me s (c ∷ calls) → Act u s c
@@ -118,39 +118,39 @@ module _ (u : Settings) (me : ℕ) (ok : Made u me) where
 
   -- what is pending at the end was pending or has arrived
   pub run-pending : (calls : List Call) (s : State) → Going u me s calls → (p : Pending) → List·Memᴰ p (run s calls .state .pending (u .owner))
-      → List·Memᴰ p (s .pending (u .owner)) ⊎ List·Memᴰ p (arrivals s calls)
-  unfolding run arrivals
+      → List·Memᴰ p (s .pending (u .owner)) ⊎ List·Memᴰ p (arrivals u (exchanges s calls))
+  unfolding run exchanges flatMap
   run-pending [] s g p i = inl i
   run-pending (c ∷ calls) s g p i = ⊎-elim
-      (λ j. ⊎-elim inl (λ k. inr (Memᴰ·append-left (arrivals (call s c .state) calls) k)) (call-between g .pending p j))
-      (λ j. inr (Memᴰ·append-right (arrivalOf s c) j))
+      (λ j. ⊎-elim inl (λ k. inr (Memᴰ·append-left (arrivals u (exchanges (call s c .state) calls)) k)) (call-between g .pending p j))
+      (λ j. inr (Memᴰ·append-right (arrivalIn u (exchange s c)) j))
       (run-pending calls (call s c .state) (going-next g) p i)
 
   -- what arrives arrives after what was accepted last, and is the owner's
-  pub arrivals-later : (calls : List Call) (s : State) → Going u me s calls → (p : Pending) → List·Memᴰ p (arrivals s calls)
+  pub arrivals-later : (calls : List Call) (s : State) → Going u me s calls → (p : Pending) → List·Memᴰ p (arrivals u (exchanges s calls))
       → (s .last .0 ≤ p .arrival .0) × Owned u (p .request)
-  unfolding arrivals
+  unfolding exchanges flatMap
   arrivals-later [] s g p i = absurd (List·Memᴰ·not-nil i)
   arrivals-later (c ∷ calls) s g p i =
       let b = call-between g in
       ⊎-elim (λ j. (omega (arith, b .last, b .arrival p j .0), b .arrival p j .1))
       (λ j. let r = arrivals-later calls (call s c .state) (going-next g) p j in (omega (arith, b .last, r .0), r .1))
-      (List·Memᴰ·append-cases (arrivalOf s c) i)
+      (List·Memᴰ·append-cases (arrivalIn u (exchange s c)) i)
 
-  first-earliest : (calls : List Call) (s : State) → Going u me s calls → (p : Pending) → List·Memᴰ p (arrivals s calls)
-      → firstArrival (p .request .timestamp) (arrivals s calls) .0 ≤ p .arrival .0
-  unfolding arrivals
+  first-earliest : (calls : List Call) (s : State) → Going u me s calls → (p : Pending) → List·Memᴰ p (arrivals u (exchanges s calls))
+      → firstArrival (p .request .timestamp) (arrivals u (exchanges s calls)) .0 ≤ p .arrival .0
+  unfolding exchanges flatMap
   first-earliest [] s g p i = absurd (List·Memᴰ·not-nil i)
   first-earliest (c ∷ calls) s g p i =
       let b = call-between g in
       let next = going-next g in
-      let late = first-no-later p (arrivalOf s c) (arrivals (call s c .state) calls) in
+      let late = first-no-later p (arrivalIn u (exchange s c)) (arrivals u (exchanges (call s c .state) calls)) in
       ⊎-elim
       (λ j. late (λ q k. omega (arith, b .arrival q k .0, b .arrival p j .0)) (inl j))
       (λ j.
       late (λ q k. omega (arith, b .arrival q k .0, arrivals-later calls (call s c .state) next p j .0))
       (inr (first-earliest calls (call s c .state) next p j)))
-      (List·Memᴰ·append-cases (arrivalOf s c) i)
+      (List·Memᴰ·append-cases (arrivalIn u (exchange s c)) i)
 
-  pub arrivals-loose : (calls : List Call) (s : State) → Going u me s calls → ArrivalRule (u .delta) (arrivals s calls) → LooseRule (u .delta) (arrivals s calls)
+  pub arrivals-loose : (calls : List Call) (s : State) → Going u me s calls → ArrivalRule (u .delta) (arrivals u (exchanges s calls)) → LooseRule (u .delta) (arrivals u (exchanges s calls))
   arrivals-loose calls s g rule p q i j h = omega (arith, rule p q i j h, first-earliest calls s g p i)

@@ -1,19 +1,19 @@
 -- After a closing step none of the owner's requests arrives, and none is pending at the end of the run.
 use Prim.Native.Nat.{ℕ, _+_, _<_}
-use mathlib.Core.Path.{_≡_, refl, _∙_, ap, subst}
+use mathlib.Core.Path.{_≡_, refl, sym, _∙_, ap, subst}
 use mathlib.Core.Logic.{⊎-elim}
 use mathlib.Core.Bool.{true, false}
-use mathlib.Core.List.{List, [], _∷_, List·Memᴰ, List·Memᴰ·not-nil}
+use mathlib.Core.List.{List, [], _∷_, List·Memᴰ, List·Memᴰ·not-nil, flatMap}
 use native.Mathlib.Omega.{arith}
 use lib.ListN.{length}
 use borrow.Author.Tests.{leb-true, lt-ltb}
-use Rattle.question.specs.Question.{Answer, given, refused, isGiven}
+use Rattle.question.specs.Question.{Answer, given, refused, isGiven, mapAnswer}
 use Rattle.layout.specs.declared.clock.LocalTime.{LocalTime}
 use Rattle.rules.specs.Lists.{some}
 use Rattle.rules.specs.Batch.{Effect}
 use Rattle.rules.specs.declared.Settings.{Settings}
 use Rattle.rules.specs.Replica.{State, Stepped, headTimestamp, batchOf, earliest, isStable, visits, atTime, step}
-use Rattle.rules.specs.Run.{Call, delivery, turn, call, run, stepTimes}
+use Rattle.rules.specs.Run.{Call, delivery, turn, messagesOf, call, run, stepIn, exchanges}
 use Rattle.failstop.specs.Suppose.{isPast, closes}
 use Rattle.rules.specs.declared.Pending.{Pending}
 use Rattle.question.proofs.Tests.{case, true-not-false}
@@ -22,6 +22,7 @@ use Rattle.laws.proofs.Least.{earliest-hit, batchAt-in, batch-some}
 use Rattle.laws.proofs.Keeps.{visits-keep}
 use Rattle.laws.proofs.Settles.{visits-settle}
 use Rattle.laws.proofs.Accepted.{Made}
+use Rattle.laws.proofs.Exchanges.{step-passed}
 use Rattle.laws.proofs.Calls.{call-step}
 use Rattle.failstop.proofs.Arrivals.{run-pending}
 use Rattle.failstop.proofs.Runs.{Underway, underway-next, after-step}
@@ -81,17 +82,17 @@ module _ (u : Settings) (me : ℕ) (ok : Made u me) where
             (λ j. omega (arith, old p (next .coming p j), after-step u me ok all s c calls w now same p j))
             (run-pending u me ok calls (call s c .state) (next .going) p i))
 
-    pub run-empty : (calls : List Call) (s : State) → Underway u me all s calls → some (closes (u .delta) all) (stepTimes s calls) ≡ true
+    pub run-empty : (calls : List Call) (s : State) → Underway u me all s calls → some (closes (u .delta) all) (flatMap stepIn (exchanges s calls)) ≡ true
         → run s calls .state .pending (u .owner) ≡ []
-    unfolding run stepTimes
+    unfolding run exchanges flatMap
     run-empty [] s w e = true-not-false false e refl
     run-empty (delivery bytes now ∷ calls) s w e =
         run-empty calls (call s (delivery bytes now) .state) (underway-next u me ok all s (delivery bytes now) calls w) e
     run-empty (turn now output ∷ calls) s w e =
         let c = turn now output in
         let next = underway-next u me ok all s c calls w in
-        case (isGiven (step s now output))
+        case (isGiven (mapAnswer (messagesOf s) (step s now output)))
         (λ g. case (closes (u .delta) all now)
-        (λ t. closing-empty s now output calls w g t)
+        (λ t. closing-empty s now output calls w (sym (step-passed s now output) ∙ g) t)
         (λ t. run-empty calls (call s c .state) next (rw (g, t) at e)))
         (λ g. run-empty calls (call s c .state) next (rw g at e))

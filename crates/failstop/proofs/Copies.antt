@@ -14,10 +14,10 @@ use Rattle.record.specs.declared.message.Message.{Message}
 use Rattle.rules.specs.Batch.{Store, Effect}
 use Rattle.rules.specs.declared.Settings.{Settings}
 use Rattle.rules.specs.Replica.{newState, requestsOf}
-use Rattle.rules.specs.Run.{Call, delivery, turn}
+use Rattle.rules.specs.Run.{Call, toGroup}
 use Rattle.rules.specs.Machine.{signedBy}
 use Rattle.failstop.specs.Suppose.{Correct, Supposed}
-use Rattle.failstop.specs.Runs.{Lent, Ran, accountOf}
+use Rattle.failstop.specs.Runs.{AllRan, accountOf}
 use Rattle.rules.specs.declared.Pending.{Pending}
 use Rattle.question.proofs.Questions.{AllYes}
 use Rattle.laws.proofs.Lists.{keep-in, in-keep, map-in, map-keep, tally-hit}
@@ -25,36 +25,34 @@ use Rattle.laws.proofs.Bag.{perm-in, perm-map, bag-perm}
 use Rattle.laws.proofs.Machine.{isHalt, Alike, machine-alike}
 use Rattle.laws.proofs.Accepted.{Made, make-made}
 use Rattle.laws.proofs.Sound.{new-sound}
-use Rattle.laws.proofs.Calls.{AllLent}
 use Rattle.laws.proofs.Majority.{correct-many}
-use Rattle.failstop.specs.Demand3.{machineOf, toGroup, SameButReplies}
+use Rattle.failstop.specs.Demand3.{machineOf, SameButReplies}
 use Rattle.failstop.proofs.Matching.{facts-pass}
 use Rattle.laws.proofs.Verdict.{signed}
+use Rattle.laws.proofs.Exchanges.{exchanges-sent}
 use Rattle.failstop.proofs.Arrivals.{Going, run-sendable, Owned, arrivals-later}
 use Rattle.failstop.proofs.Replica.{run-is-machine}
 use Rattle.failstop.proofs.Order.{machine-rising, signed-rising}
 
-pub all-lent : (calls : List Call) → Lent calls → AllLent calls
-all-lent calls lent (delivery bytes now) i = lent bytes now i
-all-lent calls lent (turn now output) i = tt
-
-module _ (u : Settings) (faulty : ℕ → Bool) (calls : ℕ → List Call) (bag : List Request) (ran : Ran u faulty calls)
+module _ (u : Settings) (faulty : ℕ → Bool) (calls : ℕ → List Call) (bag : List Request) (ran : AllRan u faulty calls)
     (sup : Supposed u faulty (accountOf u calls) bag) where
   -- ── one correct replica ──
 
   module _ (i : ℕ) (ok : Correct u faulty i) where
     made : Made u i
-    made = make-made u i (ran .made i ok)
+    made = make-made u i (ran i ok .made)
 
     going : Going u i (newState u i) (calls i)
-    going = record { sound = new-sound u i; lent = all-lent (calls i) (ran .lent i ok) }
+    going = record { sound = new-sound u i; lent = ran i ok .lent }
 
     -- the machine on its own arrivals
     abbrev own : Effect Store
     own = machineOf u (requestsOf (accountOf u calls i .arrivals))
 
     own-machine : record { state = accountOf u calls i .store; sent = toGroup (u .owner) (accountOf u calls i .sent) } ≡ signed i own
-    own-machine = run-is-machine u i made (calls i) going (sup .orderly i ok .rule) (sup .orderly i ok .closed)
+    own-machine =
+        ap (λ (sent : List Message). record { state = accountOf u calls i .store; sent = toGroup (u .owner) sent }) (exchanges-sent (newState u i) (calls i))
+        ∙ run-is-machine u i made (calls i) going (sup .orderly i ok .rule) (sup .orderly i ok .closed)
 
     common-machine : Alike own (machineOf u bag)
     common-machine = machine-alike (u .k) (u .owner) (requestsOf (accountOf u calls i .arrivals)) bag (sup .orderly i ok .same)
@@ -88,7 +86,7 @@ module _ (u : Settings) (faulty : ℕ → Bool) (calls : ℕ → List Call) (bag
 
     -- all that it sends passes the questions
     pub sent-passes : (m : Message) → List·Memᴰ m (accountOf u calls i .sent) → passes (u .k) (u .groups) m ≡ true
-    sent-passes m j = facts-pass (run-sendable u i made (calls i) (newState u i) going m j .fields)
+    sent-passes m j = facts-pass (run-sendable u i made (calls i) (newState u i) going m (rw (exchanges-sent (newState u i) (calls i)) at j) .fields)
 
     -- and every request of the bag was accepted by it
     bag-accepted : (r : Request) → List·Memᴰ r bag → Owned u r

@@ -5,7 +5,7 @@ use Prim.Native.Nat.{ℕ, zero, suc, _≤_, _<_}
 use mathlib.Core.Path.{_≡_, refl, sym, ap, subst}
 use mathlib.Core.Logic.{inl, inr}
 use mathlib.Core.Bool.{true, false}
-use mathlib.Core.List.{List, [], _∷_, List·Memᴰ, List·Memᴰ·head, List·Memᴰ·tail, Permᴰ·refl, Permᴰ·symm, Permᴰ·middle}
+use mathlib.Core.List.{List, [], _∷_, List·Memᴰ, List·Memᴰ·head, List·Memᴰ·tail, Permᴰ·refl, Permᴰ·symm, Permᴰ·middle, flatMap}
 use native.Mathlib.Omega.{arith}
 use lib.Dec.{eqb, leb}
 use lib.ListN.{replicate}
@@ -17,13 +17,13 @@ use Rattle.record.specs.Record.{fieldQuestions, readFields, writeFields}
 use Rattle.record.specs.declared.message.Message.{Message}
 use Rattle.rules.specs.Batch.{valueOf, failed, verdictOf, replyWith, handle}
 use Rattle.rules.specs.Replica.{make, admit, deliver, handleBatch, visit, visitGroup, visits, put, putAll, stepped, step}
-use Rattle.rules.specs.Run.{messagesIn, call, run, arrivals, stepTimes}
+use Rattle.rules.specs.Run.{messagesIn, call, run, exchanges}
 use Rattle.rules.specs.Machine.{react, reactAll, machine}
 use Rattle.rules.specs.Vote.{queryOf, haltsFor, vote, haltCount}
 use Rattle.rules.specs.Sample.{wrote}
 use Rattle.rules.specs.EdgeUnits.{five, lying, lateRead, lateBag, lateCalls, lie, lateHeard, splitBag, splitCalls, stopped, splitHeard}
 use Rattle.failstop.specs.Suppose.{Correct, Supposed, Authentic, CompleteForRead, CompleteForHalts}
-use Rattle.failstop.specs.Runs.{Ran, accountOf}
+use Rattle.failstop.specs.Runs.{AllRan, accountOf}
 use Rattle.failstop.specs.Demand3.{Demand3}
 use Rattle.question.proofs.Tests.{case, true-not-false}
 use Rattle.laws.proofs.Lists.{in-some}
@@ -51,7 +51,7 @@ abbrev lateSent : ℕ → List Message
 lateSent i = replyWith 7 i lateRead ∷ []
 
 late-computed : (i : ℕ) → Correct five lying i → Computed five lateCalls lateSent lateBag i
-unfolding ask unitQuestions number digits fieldsOf bytesOf fieldQuestions readFields writeFields verdictOf handle make admit deliver handleBatch visit visitGroup visits put putAll stepped step messagesIn call run arrivals stepTimes
+unfolding ask unitQuestions number digits fieldsOf bytesOf fieldQuestions readFields writeFields verdictOf handle make admit deliver handleBatch visit visitGroup visits put putAll stepped step messagesIn call run exchanges flatMap
 late-computed =
     let first = Permᴰ·symm (Permᴰ·middle lateRead (wrote 1 1 10 7 ∷ wrote 1 2 10 7 ∷ wrote 1 3 10 7 ∷ []) []) in
     last-three (Computed five lateCalls lateSent lateBag)
@@ -59,7 +59,7 @@ late-computed =
     (record { makes = refl; lends = refl; same = Permᴰ·refl lateBag; obeys = refl; closing = refl; sends = refl })
     (record { makes = refl; lends = refl; same = Permᴰ·refl lateBag; obeys = refl; closing = refl; sends = refl })
 
-pub late-ran : Ran five lying lateCalls
+pub late-ran : AllRan five lying lateCalls
 late-ran = computed-ran five lying lateCalls lateSent lateBag late-computed
 
 pub late-supposed : Supposed five lying (accountOf five lateCalls) lateBag
@@ -118,7 +118,7 @@ abbrev splitSent : ℕ → List Message
 splitSent i = stopped i 1 ∷ stopped i 2 ∷ stopped i 3 ∷ []
 
 split-computed : (i : ℕ) → Correct five lying i → Computed five splitCalls splitSent splitBag i
-unfolding ask unitQuestions number digits fieldsOf bytesOf fieldQuestions readFields writeFields verdictOf handle make admit deliver handleBatch visit visitGroup visits put putAll stepped step messagesIn call run arrivals stepTimes
+unfolding ask unitQuestions number digits fieldsOf bytesOf fieldQuestions readFields writeFields verdictOf handle make admit deliver handleBatch visit visitGroup visits put putAll stepped step messagesIn call run exchanges flatMap
 split-computed =
     let first = Permᴰ·symm (Permᴰ·middle (wrote 1 3 10 8) (wrote 1 1 10 7 ∷ wrote 1 2 10 7 ∷ []) []) in
     last-three (Computed five splitCalls splitSent splitBag)
@@ -126,7 +126,7 @@ split-computed =
     (record { makes = refl; lends = refl; same = first; obeys = refl; closing = refl; sends = refl })
     (record { makes = refl; lends = refl; same = first; obeys = refl; closing = refl; sends = refl })
 
-pub split-ran : Ran five lying splitCalls
+pub split-ran : AllRan five lying splitCalls
 split-ran = computed-ran five lying splitCalls splitSent splitBag split-computed
 
 pub split-supposed : Supposed five lying (accountOf five splitCalls) splitBag

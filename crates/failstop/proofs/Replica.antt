@@ -7,7 +7,7 @@ use mathlib.Core.List.{List, [], List·Memᴰ·not-nil, append-nil}
 use Rattle.rules.specs.Batch.{Effect}
 use Rattle.rules.specs.declared.Settings.{Settings}
 use Rattle.rules.specs.Replica.{State, newState, requestsOf}
-use Rattle.rules.specs.Run.{Call, run, arrivals}
+use Rattle.rules.specs.Run.{Call, toGroup, run, arrivals, exchanges}
 use Rattle.rules.specs.Machine.{machine}
 use Rattle.failstop.specs.Suppose.{ArrivalRule, Closed}
 use Rattle.failstop.specs.Runs.{account}
@@ -15,7 +15,6 @@ use Rattle.rules.specs.declared.Pending.{Pending}
 use Rattle.laws.proofs.Lists.{no-member}
 use Rattle.laws.proofs.Machine.{machine-from-new, machine-none}
 use Rattle.laws.proofs.Accepted.{Made}
-use Rattle.failstop.specs.Demand3.{toGroup}
 use Rattle.laws.proofs.Verdict.{signed}
 use Rattle.failstop.proofs.Arrivals.{Going, run-pending, arrivals-loose}
 use Rattle.failstop.proofs.Runs.{Underway, run-matched}
@@ -26,7 +25,7 @@ module _ (u : Settings) (me : ℕ) (ok : Made u me) (calls : List Call) (going :
   new = newState u me
 
   abbrev all : List Pending
-  all = arrivals (newState u me) calls
+  all = arrivals u (exchanges (newState u me) calls)
 
   abbrev done : Effect State
   done = run (newState u me) calls

@@ -3,10 +3,10 @@
 use Prim.Native.Nat.{ℕ, _+_, _<_}
 use mathlib.Core.Path.{_≡_, refl, _∙_, ap}
 use mathlib.Core.Bool.{true, false, not}
-use mathlib.Core.List.{List, [], _++_, map-append, List·Memᴰ, Memᴰ·map, append-assoc}
+use mathlib.Core.List.{List, _++_, map-append, List·Memᴰ, Memᴰ·map, append-assoc}
 use native.Mathlib.Omega.{arith}
 use lib.Dec.{eqb}
-use borrow.Author.Tests.{eqb-true, eq-eqb}
+use borrow.Author.Tests.{eqb-true}
 use Rattle.layout.specs.declared.clock.Timestamp.{Timestamp}
 use Rattle.layout.specs.declared.clock.LocalTime.{LocalTime}
 use Rattle.record.specs.declared.request.Request.{Request}
@@ -14,18 +14,19 @@ use Rattle.record.specs.declared.message.Message.{Message}
 use Rattle.rules.specs.Batch.{Store, Effect, follow, handle}
 use Rattle.rules.specs.declared.Settings.{Settings}
 use Rattle.rules.specs.Replica.{State, withStore, withQueue, stamped, requestsOf, headTimestamp, batchOf, others, isStable, handleBatch, visits}
+use Rattle.rules.specs.Run.{toGroup}
 use Rattle.rules.specs.Machine.{signedBy}
 use Rattle.rules.specs.declared.Pending.{Pending}
 use Rattle.question.proofs.Tests.{case}
-use Rattle.laws.proofs.Lists.{eqb-swap, keep-none, keep-all, keep-append, map-keep, map-in}
+use Rattle.laws.proofs.Lists.{eqb-swap, map-keep, map-in}
 use Rattle.laws.proofs.Least.{stable-hit, batchAt-in}
 use Rattle.laws.proofs.Queues.{replace-same, replace-other, Housed}
-use Rattle.laws.proofs.Verdict.{signed, handle-owner, handle-guest, handle-sent}
+use Rattle.laws.proofs.Verdict.{signed, handle-owner, handle-guest}
 use Rattle.laws.proofs.Visits.{handleIn, visits-all}
 use Rattle.laws.proofs.Keeps.{Keeps, batch-keeps}
+use Rattle.laws.proofs.Guests.{to-append, batch-heard, batch-unheard}
 use Rattle.laws.proofs.Occurring.{leastBatch, restOf}
 use Rattle.laws.proofs.Machine.{machineFrom, machine-later}
-use Rattle.failstop.specs.Demand3.{toGroup}
 
 -- ── effects ──
 
@@ -38,7 +39,7 @@ pub ahead-then : (owner : ℕ) (a b : List Message) {x y : Effect Store} (z : Ef
     → x ≡ ahead (toGroup owner a) y → y ≡ ahead (toGroup owner b) z → x ≡ ahead (toGroup owner (a ++ b)) z
 ahead-then owner a b z p q =
     p ∙ ap (ahead (toGroup owner a)) q
-    ∙ rw (keep-append (λ (m : Message). eqb (m .group) owner) a b, append-assoc (toGroup owner a) (toGroup owner b) (z .sent))
+    ∙ rw (to-append owner a b, append-assoc (toGroup owner a) (toGroup owner b) (z .sent))
 
 -- ── a step ──
 
@@ -65,16 +66,6 @@ module _ (u : Settings) (me : ℕ) where
   BatchMatched coming group s =
       Matched coming s (record { state = withQueue group (others (s .pending group)) (withStore (handled group s .state) s); sent = handled group s .sent })
 
-  -- its messages have its group
-  batch-group : (group : ℕ) (s : State) → Housed s → (m : Message) → List·Memᴰ m (handled group s .sent) → m .group ≡ group
-  batch-group group s housed m i =
-      let queue = s .pending group in
-      let t = headTimestamp queue in
-      handle-sent u me group t (requestsOf (batchOf queue)) (s .store) (λ r j.
-      let a = map-in (λ (p : Pending). p .request) (batchOf queue) j in
-      let b = batchAt-in t queue (a .1) in
-      rw (a .2) (housed group (a .0) (b .0), b .1)) m i .0
-
   owner-matched : (now : LocalTime) (coming : List Pending) (s : State) → Housed s → Apart u now coming (s .pending (u .owner))
       → isStable (u .delta) now (batchOf (s .pending (u .owner))) ≡ true → BatchMatched coming (u .owner) s
   owner-matched now coming s housed apart stable = rw (
@@ -84,7 +75,7 @@ module _ (u : Settings) (me : ℕ) where
     batch,
     rest,
     map-append (λ (p : Pending). p .request) (others queue) coming,
-    loud,
+    batch-heard u me (u .owner) queue (s .store) (housed (u .owner)),
     handle-owner u me t (requestsOf (batchOf queue)) (s .store),
     map-append (signedBy me),
   )
@@ -119,18 +110,12 @@ module _ (u : Settings) (me : ℕ) where
       rest : restOf bag ≡ requestsOf (others queue)
       rest = map-keep (λ (p : Pending). p .request) (λ r. not (stamped t r)) queue
 
-      loud : toGroup (u .owner) (handled (u .owner) s .sent) ≡ handled (u .owner) s .sent
-      loud = keep-all (λ (m : Message). eqb (m .group) (u .owner)) (handled (u .owner) s .sent)
-          (λ m i. eq-eqb (m .group) (u .owner) (batch-group (u .owner) s housed m i))
-
   guest-matched : (group : ℕ) (coming : List Pending) (s : State) → Housed s → eqb group (u .owner) ≡ false → BatchMatched coming group s
   guest-matched group coming s housed e =
       let queue = s .pending group in
       let kept = handle-guest u me group (headTimestamp queue) (requestsOf (batchOf queue)) (s .store) e in
+      let quiet = batch-unheard u me group queue (s .store) (housed group) (u .owner) e in
       rw (replace-other group (others queue) (s .pending) (u .owner) (eqb-swap (u .owner) group ∙ e), quiet, kept)
-    where
-      quiet : toGroup (u .owner) (handled group s .sent) ≡ []
-      quiet = keep-none (λ (m : Message). eqb (m .group) (u .owner)) _ (λ m i. rw (batch-group group s housed m i) e)
 
   module _ (now : LocalTime) (coming : List Pending) where
     pub record Ready (s : State) : Type 0 where

@@ -14,6 +14,7 @@ use Rattle.record.specs.declared.message.Message.{Message}
 use Rattle.rules.specs.Lists.{keep, some}
 use Rattle.rules.specs.Batch.{Store, Effect, valueOf, failed, allReads, replyWith}
 use Rattle.rules.specs.Replica.{stamped, requestsOf}
+use Rattle.rules.specs.Run.{toGroup}
 use Rattle.rules.specs.Machine.{machine, signedBy}
 use Rattle.rules.specs.Vote.{queryOf, haltsFor, vote, haltCount}
 use Rattle.rules.specs.declared.Settings.{Settings}
@@ -34,10 +35,6 @@ abbrev pub Unmixed : List Request → Request → Type 0
 Unmixed bag r = allReads (keep (stamped (r .timestamp)) bag) ≡ true
 
 -- ── the order of messages ──
-
--- the messages to a group, in their order
-abbrev pub toGroup : ℕ → List Message → List Message
-toGroup group messages = keep (λ m. eqb (m .group) group) messages
 
 -- the halts, in their order
 abbrev pub haltsIn : List Message → List Message

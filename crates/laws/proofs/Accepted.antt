@@ -1,6 +1,6 @@
 -- What the calls accept, by name: the settings and the number of a replica, a request that came in bytes, a delivery, a step.
 use Prim.Native.Nat.{ℕ, _+_, _*_, _^_, _≤_, _<_}
-use mathlib.Core.Path.{_≡_, ap, _∙_, subst}
+use mathlib.Core.Path.{_≡_, sym, ap, _∙_, subst}
 use mathlib.Core.Bool.{true}
 use mathlib.Core.List.{List, [], _∷_}
 use native.Mathlib.Omega.{arith}
@@ -11,7 +11,7 @@ use borrow.Author.Tests.{eqb-true, leb-true, leb-false, ltb-true}
 use Rattle.limits.specs.Limits.{maxGroups, maxDelta, places, outputSize}
 use Rattle.question.specs.Question.{Question, _else_, given, ask, within, unitQuestions}
 use Rattle.layout.specs.Number.{Bytes, number as says}
-use Rattle.layout.specs.Layout.{fieldsOf}
+use Rattle.layout.specs.Layout.{field, fieldsOf}
 use Rattle.record.specs.Kind.{write, isWrite}
 use Rattle.record.specs.Record.{requestIn, readFields, readRequest}
 use Rattle.record.specs.declared.kind.Family.the-variants.{Requests}
@@ -107,6 +107,11 @@ read-proper k n bytes h e =
       timestamp = part-below bytes h 8 8 (omega arith);
       value = part-below bytes h 16 4 (omega arith);
     })
+
+-- its group is what byte 1 names
+pub read-names : (k n : ℕ) (bytes : List ℕ) {r : Request} → readRequest k n bytes ≡ given r → r .group ≡ field bytes 1 1
+unfolding fieldsOf
+read-names k n bytes e = ap (λ (r : Request). r .group) (sym (read-asked k n bytes e .1))
 
 -- whatever it came in, an accepted request is of a process within 1 to k + 1
 pub read-process : (k n : ℕ) (bytes : List ℕ) {r : Request} → readRequest k n bytes ≡ given r → (1 ≤ r .process) × (r .process ≤ k + 1)

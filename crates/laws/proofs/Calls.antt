@@ -3,33 +3,25 @@
 use Prim.Native.Nat.{ℕ, _*_, _≤_, _<_}
 use mathlib.Core.Path.{_≡_, refl, sym, _∙_, ap, subst}
 use mathlib.Core.Logic.{⊎-elim}
-use mathlib.Core.List.{List, [], _∷_, _++_, List·Memᴰ, List·Memᴰ·head, List·Memᴰ·tail}
+use mathlib.Core.List.{List, [], _∷_, _++_, List·Memᴰ·head, List·Memᴰ·tail}
 use native.Mathlib.Omega.{arith}
 use lib.ListN.{length, drop, length-append}
 use Rattle.limits.specs.Limits.{places, recordSize}
 use Rattle.question.specs.Question.{Answer, given, refused, after, mapAnswer}
-use Rattle.layout.specs.Number.{Bytes}
 use Rattle.layout.specs.declared.clock.LocalTime.{LocalTime}
 use Rattle.record.specs.declared.request.Request.{Request}
 use Rattle.rules.specs.Batch.{Effect, still}
 use Rattle.rules.specs.declared.Settings.{Settings}
 use Rattle.rules.specs.Replica.{State, Stepped, admit, arrive, deliver, visits, atTime, Written, written, putAll, stepped, step}
-use Rattle.rules.specs.Run.{Call, delivery, turn, messagesIn, sentBy, call, run, arrived, arrivalOf}
+use Rattle.rules.specs.Run.{Call, delivery, turn, LentTo, Lent, messagesIn, sentBy, call, run, exchange, arrived, arrivalIn}
 use Rattle.rules.specs.declared.Pending.{Pending}
 use Rattle.laws.specs.Output.{recordBytes, HoldsRecords}
 use Rattle.laws.proofs.Queues.{replace-all, arrive-in, arrive-housed}
 use Rattle.laws.proofs.Step.{step-accepted, step-keeps, step-at-most-67}
 use Rattle.laws.proofs.Records.{written-records, read-records}
 use Rattle.laws.proofs.Accepted.{Made, Proper, read-proper, admit-admitted, step-late, step-room}
+use Rattle.laws.proofs.Exchanges.{read-with, arrival-admitted}
 use Rattle.laws.proofs.Sound.{Sound, visits-soundly}
-
--- what is delivered are bytes
-abbrev pub LentTo : Call → Type 0
-LentTo (delivery bytes now) = Bytes bytes
-LentTo (turn now output) = Unit {0}
-
-abbrev pub AllLent : List Call → Type 0
-AllLent calls = (c : Call) → List·Memᴰ c calls → LentTo c
 
 -- ── the settings ──
 
@@ -51,10 +43,10 @@ call-settings s (turn now output) = go (step s now output) refl
 
 -- a call that is refused, a delivery that is accepted, a step that is
 pub data Act (u : Settings) (s : State) (c : Call) : Type 0 where
-  nothing : call s c ≡ still s → arrivalOf s c ≡ [] → Act u s c
+  nothing : call s c ≡ still s → arrivalIn u (exchange s c) ≡ [] → Act u s c
   arrives : (r : Request) (now : LocalTime) → Proper (u .k) (u .groups) r → s .last .0 ≤ now .0 → length (s .pending (r .group)) < places
-      → call s c ≡ still (arrive s r now) → arrivalOf s c ≡ arrived (u .owner) now (given r) → Act u s c
-  steps : (now : LocalTime) → s .last .0 ≤ now .0 → call s c ≡ visits (u .groups) now (atTime now s) → arrivalOf s c ≡ [] → Act u s c
+      → call s c ≡ still (arrive s r now) → arrivalIn u (exchange s c) ≡ arrived (u .owner) now (given r) → Act u s c
+  steps : (now : LocalTime) → s .last .0 ≤ now .0 → call s c ≡ visits (u .groups) now (atTime now s) → arrivalIn u (exchange s c) ≡ [] → Act u s c
 
 module _ (u : Settings) (me : ℕ) (ok : Made u me) where
   -- the time makes no difference
@@ -106,7 +98,8 @@ module _ (u : Settings) (me : ℕ) (ok : Made u me) where
       go (refused number) e = nothing (rw e) (rw e)
       go (given r) e =
           let a = admit-admitted s bytes now e in
-          arrives r now (read-proper (u .k) (u .groups) bytes lent (rw (h .settings) at (a .reads))) (a .late) (a .room) (rw e) (rw (e, h .settings))
+          let arrival = arrival-admitted u s bytes now (h .settings) ∙ ap (arrived (u .owner) now) e in
+          arrives r now (read-proper (u .k) (u .groups) bytes lent (read-with s bytes now (h .settings) e)) (a .late) (a .room) (rw e) arrival
   call-act s (turn now output) h lent = go (step s now output) refl
     where
       go : (a : Answer Stepped) → step s now output ≡ a → Act u s (turn now output)
@@ -135,7 +128,7 @@ module _ (u : Settings) (me : ℕ) (ok : Made u me) where
       go (steps now late e a) = rw e (visits-soundly u me ok (u .groups) now (atTime now s) (at-sound s now h) .0)
 
   -- so every state of a run is sound
-  pub run-sound : (calls : List Call) (s : State) → Sound u me s → AllLent calls → Sound u me (run s calls .state)
+  pub run-sound : (calls : List Call) (s : State) → Sound u me s → Lent calls → Sound u me (run s calls .state)
   unfolding run
   run-sound [] s h lent = h
   run-sound (c ∷ calls) s h lent =

@@ -3,7 +3,7 @@
 use Prim.Native.Nat.{ℕ, _+_, _≤_}
 use mathlib.Core.Path.{_≡_, refl, sym, _∙_, ap, subst}
 use mathlib.Core.Logic.{⊎-elim}
-use mathlib.Core.List.{List, [], _∷_, List·Memᴰ, List·Memᴰ·head, List·Memᴰ·not-nil, Memᴰ·append-left, Memᴰ·append-right, Memᴰ·map}
+use mathlib.Core.List.{List, [], _∷_, List·Memᴰ, List·Memᴰ·head, List·Memᴰ·not-nil, Memᴰ·append-left, Memᴰ·append-right, Memᴰ·map, flatMap}
 use borrow.Author.Tests.{eq-eqb}
 use Rattle.question.specs.Question.{Answer, given, refused, bind, after}
 use Rattle.layout.specs.declared.clock.LocalTime.{LocalTime}
@@ -11,12 +11,13 @@ use Rattle.record.specs.declared.request.Request.{Request}
 use Rattle.rules.specs.Batch.{Store, newStore, handle}
 use Rattle.rules.specs.declared.Settings.{Settings}
 use Rattle.rules.specs.Replica.{State, Stepped, newState, admit, arrive, deliver, requestsOf, headTimestamp, batchOf, handleBatch, visits, atTime, stepped, step}
-use Rattle.rules.specs.Run.{Call, delivery, turn, sentBy, call, run, arrived, arrivalOf, arrivals}
+use Rattle.rules.specs.Run.{Call, delivery, turn, sentBy, call, run, exchange, exchanges, arrived, arrivalIn, arrivals}
 use Rattle.rules.specs.declared.Pending.{Pending}
 use Rattle.laws.proofs.Lists.{map-in}
 use Rattle.laws.proofs.Least.{batchAt-in}
 use Rattle.laws.proofs.Queues.{arrive-in, Housed, arrive-housed}
 use Rattle.laws.proofs.Accepted.{read-process, admit-admitted}
+use Rattle.laws.proofs.Exchanges.{arrival-admitted}
 use Rattle.laws.proofs.Visits.{handleIn, visits-all}
 use Rattle.laws.proofs.Keeps.{Keeps, batch-keeps}
 use Rattle.laws.proofs.Step.{step-accepted}
@@ -133,7 +134,7 @@ module _ (u : Settings) (requests : List Request) where
   Covers arrivals = (p : Pending) → List·Memᴰ p arrivals → List·Memᴰ (p .request) requests
 
   deliver-runs : (s : State) (bytes : List ℕ) (now : LocalTime) (a : Answer Request) → admit s bytes now ≡ a
-      → Covers (arrived (s .settings .owner) now a) → Runs s (after s (bind a (λ r. given (arrive s r now))))
+      → Covers (arrived (u .owner) now a) → Runs s (after s (bind a (λ r. given (arrive s r now))))
   deliver-runs s bytes now (refused number) e all = runs-same s
   deliver-runs s bytes now (given q) e all = λ r.
       (record { settings = r .settings; within = within r; housed = arrive-housed s q now (r .housed); known = known r }, start)
@@ -148,26 +149,27 @@ module _ (u : Settings) (requests : List Request) where
       known : Ready s → (p : Pending) → List·Memᴰ p (arrive s q now .pending (u .owner)) → List·Memᴰ (p .request) requests
       known r p i = ⊎-elim (r .known p)
           (λ j.
-          let owned : q .group ≡ s .settings .owner = sym (j .1) ∙ ap (λ (v : Settings). v .owner) (sym (r .settings)) in
-          all p (rw (eq-eqb (q .group) (s .settings .owner) owned) (List·Memᴰ·head (j .0))))
+          let owned : q .group ≡ u .owner = sym (j .1) in
+          all p (rw (eq-eqb (q .group) (u .owner) owned) (List·Memᴰ·head (j .0))))
           (arrive-in s q now (u .owner) p i)
 
-  call-runs : (s : State) (c : Call) → Covers (arrivalOf s c) → Runs s (call s c .state)
+  call-runs : (s : State) (c : Call) → Covers (arrivalIn u (exchange s c)) → Runs s (call s c .state)
   unfolding call deliver
-  call-runs s (delivery bytes now) all = deliver-runs s bytes now (admit s bytes now) refl all
+  call-runs s (delivery bytes now) all = λ r.
+      deliver-runs s bytes now (admit s bytes now) refl (λ p i. all p (subst (List·Memᴰ p) (sym (arrival-admitted u s bytes now (r .settings))) i)) r
   call-runs s (turn now output) all = step-runs s now output (step s now output) refl
 
-  run-runs : (calls : List Call) (s : State) → Covers (arrivals s calls) → Runs s (run s calls .state)
-  unfolding run arrivals
+  run-runs : (calls : List Call) (s : State) → Covers (arrivals u (exchanges s calls)) → Runs s (run s calls .state)
+  unfolding run exchanges flatMap
   run-runs [] s all = runs-same s
   run-runs (c ∷ calls) s all =
-      runs-then (call-runs s c (λ p i. all p (Memᴰ·append-left (arrivals (call s c .state) calls) i)))
-      (run-runs calls (call s c .state) (λ p i. all p (Memᴰ·append-right (arrivalOf s c) i)))
+      runs-then (call-runs s c (λ p i. all p (Memᴰ·append-left (arrivals u (exchanges (call s c .state) calls)) i)))
+      (run-runs calls (call s c .state) (λ p i. all p (Memᴰ·append-right (arrivalIn u (exchange s c)) i)))
 
 pub run-performed-by-all : (u : Settings) (number : ℕ) (calls : List Call)
-    → Course u (requestsOf (arrivals (newState u number) calls)) newStore (run (newState u number) calls .state .store)
+    → Course u (requestsOf (arrivals u (exchanges (newState u number) calls))) newStore (run (newState u number) calls .state .store)
 run-performed-by-all u number calls =
-    run-runs u (requestsOf (arrivals (newState u number) calls)) calls (newState u number) (λ p i. Memᴰ·map (λ (x : Pending). x .request) i)
+    run-runs u (requestsOf (arrivals u (exchanges (newState u number) calls))) calls (newState u number) (λ p i. Memᴰ·map (λ (x : Pending). x .request) i)
     (record {
       settings = refl;
       within = λ g p i. absurd (List·Memᴰ·not-nil i);

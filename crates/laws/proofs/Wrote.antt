@@ -7,16 +7,16 @@ use Rattle.question.specs.Question.{given}
 use Rattle.layout.specs.declared.clock.LocalTime.{LocalTime}
 use Rattle.record.specs.declared.message.Message.{Message}
 use Rattle.rules.specs.Replica.{State, Stepped, newState, make, visits, atTime, step}
-use Rattle.rules.specs.Run.{Call, messagesIn, run}
+use Rattle.rules.specs.Run.{Call, Lent, messagesIn, run}
 use Rattle.rules.specs.declared.Settings.{Settings}
 use Rattle.laws.specs.Handled.{ForHandled}
 use Rattle.laws.specs.Output.{HoldsRecords}
 use Rattle.laws.proofs.Accepted.{Made, make-made}
 use Rattle.laws.proofs.Sound.{Sound, new-sound}
 use Rattle.laws.proofs.Values.{sent-exactly}
-use Rattle.laws.proofs.Calls.{AllLent, step-wrote, run-sound}
+use Rattle.laws.proofs.Calls.{step-wrote, run-sound}
 
-module _ (u : Settings) (number : ℕ) (made : make u number ≡ given (newState u number)) (calls : List Call) (lent : AllLent calls)
+module _ (u : Settings) (number : ℕ) (made : make u number ≡ given (newState u number)) (calls : List Call) (lent : Lent calls)
     (now : LocalTime) (output : List ℕ) where
   abbrev reached : State
   reached = run (newState u number) calls .state

@@ -5,3 +5,4 @@ pub mod Edges
 pub mod Refusals
 pub mod Polls
 pub mod Strangers
+pub mod TwoRuns

@@ -8,7 +8,7 @@ use Rattle.record.specs.declared.message.Message.{Message}
 use Rattle.rules.specs.Lists.{upTo}
 use Rattle.rules.specs.Batch.{Store, valueOf}
 use Rattle.rules.specs.Replica.{State, make, requestsOf}
-use Rattle.rules.specs.Run.{Call, run, arrivals}
+use Rattle.rules.specs.Run.{Call, run, exchanges, arrivals}
 use Rattle.rules.specs.Machine.{machine, signedBy}
 use Rattle.rules.specs.Sample.{settings, wroteTo, asked, deliverAt, stepAt}
 use Rattle.rules.specs.declared.Settings.{Settings}
@@ -39,7 +39,7 @@ pub record Row : Type 0 where
 abbrev look : Row → State → Seen
 look row s =
     let done = run s (row .calls) in
-    let ideal = machine (row .settings .k) (row .settings .owner) (requestsOf (arrivals s (row .calls))) in
+    let ideal = machine (row .settings .k) (row .settings .owner) (requestsOf (arrivals (row .settings) (exchanges s (row .calls)))) in
     record {
       copy = held (row .variables) (done .state .store);
       sent = done .sent;
@@ -123,6 +123,8 @@ rows =
     ∷ row settings (together 1 1 10 4 0 ++ reads 1 2 10 4) (0 ∷ 4 ∷ []) (1 ∷ 0 ∷ []) 0 (stops 1 10 (1 ∷ 2 ∷ [])) []
     -- a guest's dissent, with the timestamp of a write of the owner's
     ∷ row settings (together 1 2 10 4 9 ++ both 10 4 7) (0 ∷ 4 ∷ []) (0 ∷ 7 ∷ []) 1 [] []
+    -- one write again, refused for its local time: it has not arrived, neither here nor at the machine
+    ∷ row settings (both 10 4 7 ++ (deliverAt 99 (wroteTo 4 1 1 10 7) ∷ [])) (0 ∷ 4 ∷ []) (0 ∷ 7 ∷ []) 1 [] []
     -- group 2 is the owner, and group 1 a guest; the owner's halts
     ∷ row second (together 2 1 5 4 9 ++ together 2 2 10 4 7 ++ reads 2 1 20 4 ++ together 1 2 30 4 8) (0 ∷ 4 ∷ []) (1 ∷ 7 ∷ []) 1 (told 2 1 20 4 7 ∷ stops 2 30 (1 ∷ 2 ∷ [])) []
     -- one process of one; four of four; three of four

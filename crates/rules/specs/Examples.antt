@@ -6,7 +6,7 @@ use Rattle.question.specs.Question.{Answer, given, refused, mapAnswer}
 use Rattle.record.specs.declared.message.Message.{Message}
 use Rattle.rules.specs.Batch.{replyWith, haltTo}
 use Rattle.rules.specs.Replica.{State, newState, pendingIn, requestsOf, step}
-use Rattle.rules.specs.Run.{Call, delivery, turn, call, run, arrivals}
+use Rattle.rules.specs.Run.{Call, delivery, turn, call, run, exchanges, arrivals}
 use Rattle.rules.specs.Machine.{machine}
 use Rattle.rules.specs.Vote.{vote}
 use Rattle.rules.specs.Sample.{settings, wrote, asked, deliverAt, stepAt, Figures, figures}
@@ -34,7 +34,7 @@ abbrev pub see : Example → Seen
 see (play calls) =
     let s = newState settings 1 in
     let done = run s calls in
-    saw (figures (done .state .store)) (pendingIn 2 (done .state .pending)) (stepAnswers s calls) (done .sent) (figures (machine 1 1 (requestsOf (arrivals s calls)) .state))
+    saw (figures (done .state .store)) (pendingIn 2 (done .state .pending)) (stepAnswers s calls) (done .sent) (figures (machine 1 1 (requestsOf (arrivals settings (exchanges s calls))) .state))
 see (poll list) = voted (vote 1 2 (record { group = 1; process = 1; variable = 4; timestamp = record { 0 = 10 } }) list)
 
 -- ── the rows ──

@@ -4,6 +4,7 @@ pub mod Replica
 pub mod Run
 pub mod Machine
 pub mod Vote
+pub mod Owner
 pub mod Numbers
 pub mod Sample
 pub mod Examples
@@ -14,3 +15,4 @@ pub mod Refusals
 pub mod RecordRefusals
 pub mod Polls
 pub mod Strangers
+pub mod TwoRuns

@@ -5,15 +5,15 @@ use mathlib.Core.List.{List, [], _∷_, _++_, map, map-append}
 use native.Mathlib.Omega.{arith}
 use lib.ListN.{getD, replicate}
 use Rattle.limits.specs.Limits.{outputSize}
-use Rattle.question.specs.Question.{given, after, mapAnswer}
+use Rattle.question.specs.Question.{after, mapAnswer}
 use Rattle.record.specs.declared.request.Request.{Request}
 use Rattle.rules.specs.Replica.{State, newState, make, step}
-use Rattle.rules.specs.Run.{Call, call, run}
+use Rattle.rules.specs.Run.{Call, call, run, Ran}
 use Rattle.rules.specs.Sample.{deliverAt, stepAt}
 use Rattle.state.specs.Made.{blankState}
 use Rattle.unit.proofs.Lives.{stepped-state}
 use Rattle.session.specs.Session.{unit, choices, requestsFor, session, figuresIn, figuresOf}
-use Rattle.session.proofs.Fed.{sessionCalls, fed-lent, fed-orderly, fed-made}
+use Rattle.session.proofs.Fed.{sessionCalls, fed-ran, fed-orderly}
 use Rattle.session.proofs.Reached.{run-reaches}
 
 run-append : (a b : List Call) (s : State) → run s (a ++ b) .state ≡ run (run s a .state) b .state
@@ -40,12 +40,12 @@ module _ (place : ℕ) (small : place < 256) where
   abbrev part : ℕ → ℕ → ℕ → List Request
   part process t i = requestsFor process t (getD (choices place) i 0)
 
-  made : make (unit delta) 1 ≡ given new
-  made = fed-made delta 1 (omega arith) (omega arith) (omega arith)
+  ran : Ran (unit delta) 1 (sessionCalls delta place)
+  ran = fed-ran delta 1 place (omega arith) (omega arith) (omega arith) small
 
   fed-figures : figuresIn (run new (sessionCalls delta place) .state .store) ≡ figuresOf place
   fed-figures =
-      run-reaches delta 1 place small (sessionCalls delta place) made (fed-lent delta place small) (fed-orderly delta 1 place (omega arith) small)
+      run-reaches delta 1 place small (sessionCalls delta place) ran (fed-orderly delta 1 place (omega arith) small)
 
   parts-fed : feed (part 2 2 3) (feed (part 1 2 2) (feed (part 2 1 1) (feed (part 1 1 0) new))) ≡ feed (session place) new
   parts-fed =
@@ -59,7 +59,7 @@ module _ (place : ℕ) (small : place < 256) where
       → figuresIn (last .store) ≡ figuresOf place
   unfolding call run
   brought {fourth = fourth} {last = last} z a b c d e =
-      let from-new = a ∙ ap (feed (part 1 1 0)) (z ∙ ap (after blankState) made) in
+      let from-new = a ∙ ap (feed (part 1 1 0)) (z ∙ ap (after blankState) (ran .made)) in
       let all : fourth ≡ feed (session place) new =
       d ∙ (ap (feed (part 2 2 3)) (c ∙ ap (feed (part 1 2 2)) (b ∙ ap (feed (part 2 1 1)) from-new)) ∙ parts-fed) in
       let closed : last ≡ run new (sessionCalls delta place) .state =

@@ -3,7 +3,7 @@ use Prim.Native.Nat.{ℕ, _+_, _≤_, _<_}
 use mathlib.Core.Path.{_≡_, refl}
 use mathlib.Core.Bool.{true}
 use mathlib.Core.Logic.{inl}
-use mathlib.Core.List.{List, [], _∷_, _++_, map}
+use mathlib.Core.List.{List, [], _∷_, _++_, map, flatMap}
 use native.Mathlib.Omega.{arith}
 use lib.ListN.{replicate}
 use borrow.Author.Tests.{le-leb, lt-ltb}
@@ -15,12 +15,13 @@ use Rattle.record.specs.Record.{requestFields, fieldQuestions, readFields}
 use Rattle.record.specs.declared.request.Request.{Request}
 use Rattle.rules.specs.Lists.{every}
 use Rattle.rules.specs.Replica.{State, newState, requestsOf, make, admit, arrive, deliver, step}
-use Rattle.rules.specs.Run.{Call, call, arrivals, stepTimes}
+use Rattle.rules.specs.Run.{Call, Lent, call, exchanges, arrivals, stepIn, Ran}
 use Rattle.rules.specs.Sample.{deliverAt, stepAt}
 use Rattle.rules.specs.declared.Pending.{Pending}
 use Rattle.failstop.specs.Suppose.{closes, Orderly}
-use Rattle.failstop.specs.Runs.{Lent, account}
-use Rattle.failstop.proofs.Computed.{deliversBytes, computed-lent}
+use Rattle.failstop.specs.Runs.{account}
+use Rattle.laws.proofs.Exchanges.{step-passed}
+use Rattle.laws.proofs.Delivered.{deliversBytes, computed-lent}
 use Rattle.laws.proofs.Lists.{map-in}
 use Rattle.session.specs.Session.{unit, session}
 use Rattle.session.proofs.Places.{at-place}
@@ -35,12 +36,12 @@ abbrev atZero : Request → Pending
 atZero r = record { request = r; arrival = record { 0 = 0 } }
 
 fed-arrivals : (delta number place : ℕ) → place < 256
-    → arrivals (newState (unit delta) number) (sessionCalls delta place) ≡ map atZero (session place)
-unfolding ask unitQuestions number digits fieldsOf bytesOf fieldQuestions readFields admit deliver call arrivals
+    → arrivals (unit delta) (exchanges (newState (unit delta) number) (sessionCalls delta place)) ≡ map atZero (session place)
+unfolding ask unitQuestions number digits fieldsOf bytesOf fieldQuestions readFields admit deliver call exchanges flatMap
 fed-arrivals delta number place small =
-    at-place (λ p. arrivals (newState (unit delta) number) (sessionCalls delta p)) (λ p. map atZero (session p)) refl place small
+    at-place (λ p. arrivals (unit delta) (exchanges (newState (unit delta) number) (sessionCalls delta p))) (λ p. map atZero (session p)) refl place small
 
-pub fed-lent : (delta place : ℕ) → place < 256 → Lent (sessionCalls delta place)
+fed-lent : (delta place : ℕ) → place < 256 → Lent (sessionCalls delta place)
 unfolding digits bytesOf
 fed-lent delta place small =
     computed-lent (sessionCalls delta place) (at-place (λ p. every deliversBytes (sessionCalls delta p)) (λ p. true) refl place small)
@@ -62,9 +63,9 @@ step-given s t e small = rw (e, le-leb t maxTime (omega arith), le-leb 0 t (omeg
 
 -- after the deliveries only the step counts, and it is accepted
 fed-times : (bag : List Request) (s : State) (t : ℕ) → s .last .0 ≡ 0 → t ≤ maxDelta + 1
-    → stepTimes s (map (deliverAt 0) bag ++ (stepAt t ∷ [])) ≡ record { 0 = t } ∷ []
-unfolding stepTimes
-fed-times [] s t e small = rw (step-given s t e small)
+    → flatMap stepIn (exchanges s (map (deliverAt 0) bag ++ (stepAt t ∷ []))) ≡ record { 0 = t } ∷ []
+unfolding exchanges flatMap
+fed-times [] s t e small = rw (step-passed s (record { 0 = t }) (replicate outputSize 0), step-given s t e small)
 fed-times (r ∷ bag) s t e small = fed-times bag (call s (deliverAt 0 r) .state) t (call-last s r e) small
 
 -- ── all of it ──
@@ -92,3 +93,6 @@ fed-orderly delta number place short small =
 pub fed-made : (delta number : ℕ) → delta ≤ maxDelta → 1 ≤ number → number ≤ 3 → make (unit delta) number ≡ given (newState (unit delta) number)
 unfolding ask unitQuestions make
 fed-made delta number short low high = rw (le-leb delta maxDelta short, le-leb 1 number low, le-leb number 3 high)
+
+pub fed-ran : (delta number place : ℕ) → delta ≤ maxDelta → 1 ≤ number → number ≤ 3 → place < 256 → Ran (unit delta) number (sessionCalls delta place)
+fed-ran delta number place short low high small = record { made = fed-made delta number short low high; lent = fed-lent delta place small }

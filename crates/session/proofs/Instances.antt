@@ -2,7 +2,7 @@
 -- arrives first, timestamp 1 exactly δ later, and the step comes δ + 1 after that. A `Held` that is narrower than it need be is refused here.
 use Prim.Native.Nat.{ℕ}
 use mathlib.Core.Path.{_≡_, refl}
-use mathlib.Core.List.{List, [], _∷_, Permᴰ·reverse}
+use mathlib.Core.List.{List, [], _∷_, Permᴰ·reverse, flatMap}
 use native.Mathlib.Omega.{arith}
 use Rattle.question.specs.Question.{ask, unitQuestions}
 use Rattle.layout.specs.Number.{number, digits}
@@ -12,7 +12,7 @@ use Rattle.record.specs.declared.message.Message.{Message}
 use Rattle.rules.specs.Batch.{verdictOf}
 use Rattle.rules.specs.Machine.{react, reactAll, machine}
 use Rattle.rules.specs.Replica.{admit, deliver, step}
-use Rattle.rules.specs.Run.{Call, call, arrivals, stepTimes}
+use Rattle.rules.specs.Run.{Call, call, exchanges}
 use Rattle.rules.specs.Sample.{wroteTo, deliverAt, stepAt}
 use Rattle.failstop.specs.Suppose.{Correct}
 use Rattle.failstop.specs.Runs.{accountOf}
@@ -37,7 +37,7 @@ abbrev sent : ℕ → List Message
 sent i = accountOf (unit 5) calls i .sent
 
 backwards-computed : (i : ℕ) → Correct (unit 5) none i → Computed (unit 5) calls sent (session 175) i
-unfolding ask unitQuestions number digits fieldsOf bytesOf fieldQuestions readFields admit deliver step call arrivals stepTimes
+unfolding ask unitQuestions number digits fieldsOf bytesOf fieldQuestions readFields admit deliver step call exchanges flatMap
 backwards-computed i ok = record {
   makes = fed-made 5 i (omega arith) (ok .low) (ok .high);
   lends = refl;
@@ -54,7 +54,7 @@ pub backwards-held : Held 5 3 175 (lifeOf (unit 5) 3 backwards)
 backwards-held =
     let supposed = computed-supposed (unit 5) none calls sent (session 175) backwards-computed (omega arith) in
     let ran = computed-ran (unit 5) none calls sent (session 175) backwards-computed in
-    run-held 5 3 175 backwards (ran .made 3 last) (ran .lent 3 last) (supposed .orderly 3 last)
+    run-held 5 3 175 backwards (ran 3 last) (supposed .orderly 3 last)
 
 -- both writes performed, in the order of their timestamps
 pub backwards-reaches : figuresIn (stateOf (lifeOf (unit 5) 3 backwards .last) .store) ≡ record { failed = 0; value = 2; writes = 2 }

@@ -6,5 +6,6 @@ pub mod Structs
 pub mod Lives
 pub mod Instances
 pub mod Edges
+pub mod Isolation
 -- refusal numbers
 pub mod Numbers

@@ -9,22 +9,23 @@ use Rattle.question.specs.Question.{Answer, given, refused, after, mapAnswer, v
 use Rattle.question.specs.declared.Outcome.{Outcome}
 use Rattle.layout.specs.declared.clock.LocalTime.{LocalTime}
 use Rattle.record.specs.declared.request.Request.{Request}
-use Rattle.rules.specs.Replica.{State, Stepped, newState, make, deliver, step}
-use Rattle.rules.specs.Run.{Call, delivery, turn, sentBy, call, run}
+use Rattle.rules.specs.Replica.{State, Stepped, newState, deliver, step}
+use Rattle.rules.specs.Run.{Call, delivery, turn, LentTo, Lent, sentBy, call, run, exchanges, Ran}
+use Rattle.rules.specs.Owner.{ownerView}
 use Rattle.rules.specs.declared.Settings.{Settings}
 use Rattle.laws.proofs.Accepted.{Made, make-made}
 use Rattle.laws.proofs.Sound.{Sound, new-sound}
-use Rattle.laws.proofs.Calls.{LentTo, AllLent, call-sound}
+use Rattle.laws.proofs.Calls.{call-sound}
 use Rattle.failstop.specs.Suppose.{Correct, Supposed}
 use Rattle.failstop.specs.Runs as rules
-use Rattle.failstop.proofs.Copies.{all-lent}
 use Rattle.state.specs.State.{stateOf}
 use Rattle.state.specs.Made.{newReplica}
 use Rattle.step.specs.Answer.{stepAnswer}
 use Rattle.step.specs.declared.stepping.StepAnswer.{StepAnswer}
-use Rattle.unit.specs.Life.{Life, Lived, accountIn, Event, delivered, stepped, Does, delivers, steps, Runs, start, then}
-use Rattle.unit.specs.Unit.{accounts, Ran}
-use Rattle.unit.proofs.Accounts.{callOf, callsOf, life-account}
+use Rattle.unit.specs.Life.{Life, Lived, pastIn, Event, delivered, stepped, Does, delivers, steps, Runs, start, then}
+use Rattle.unit.specs.Unit.{lifeAccount, accounts, UnitRan}
+use Rattle.unit.specs.Isolation.{viewIn}
+use Rattle.unit.proofs.Accounts.{callOf, callsOf, life-account, life-past, life-view}
 use Rattle.unit.proofs.Same.{supposed-same}
 use Rattle.unit.proofs.Structs.{replicaOf, state-of-struct}
 
@@ -129,7 +130,7 @@ module _ (u : Settings) (number : ℕ) (ok : Made u number) where
           subst (λ (t : State). Does (replicaOf s) (replicaOf t) (eventOf s (turn at output))) same
           (step-done s at output before (subst Fits (sym same) behind))
 
-  calls-done : (calls : List Call) (s : State) → Sound u number s → AllLent calls
+  calls-done : (calls : List Call) (s : State) → Sound u number s → Lent calls
       → Runs (replicaOf s) (eventsOf s calls) (replicaOf (run s calls .state))
   unfolding run
   calls-done [] s h lent = start
@@ -152,27 +153,34 @@ lifeOf u number calls =
       last = replicaOf (run s calls .state);
     }
 
-pub life-lived : (u : Settings) (number : ℕ) (calls : List Call) → make u number ≡ given (newState u number) → AllLent calls
-    → Lived u number (lifeOf u number calls)
-unfolding flatMap
-life-lived u number calls made lent =
-    let ok = make-made u number made in
-    let new = new-sound u number in
-    record {
-      makes = record {
-        lifetimes = tt;
-        learnt = rw made (refl, (state-of-struct u number ok (newState u number) new, λ q e. absurd (let z : _≡_ {A = ℕ} 0 1 = cc in omega arith)));
-      };
-      accepted = refl;
-      runs = calls-done u number ok calls (newState u number) new lent;
-    }
+module _ (u : Settings) (number : ℕ) (calls : List Call) (ran : Ran u number calls) where
+  pub life-lived : Lived u number (lifeOf u number calls)
+  unfolding flatMap
+  life-lived =
+      let ok = make-made u number (ran .made) in
+      let new = new-sound u number in
+      record {
+        makes = record {
+          lifetimes = tt;
+          learnt = rw (ran .made)
+              (refl, (state-of-struct u number ok (newState u number) new, λ q e. absurd (let z : _≡_ {A = ℕ} 0 1 = cc in omega arith)));
+        };
+        accepted = refl;
+        runs = calls-done u number ok calls (newState u number) new (ran .lent);
+      }
 
--- and it gives the account of the run
-pub life-account-is : (u : Settings) (number : ℕ) (calls : List Call) → make u number ≡ given (newState u number) → AllLent calls
-    → accountIn u (lifeOf u number calls) ≡ rules.account u number calls
-life-account-is u number calls made lent =
-    life-account u number (lifeOf u number calls) (life-lived u number calls made lent)
-    ∙ ap (rules.account u number) (calls-of-events calls (newState u number))
+  same-calls : callsOf (lifeOf u number calls .events) ≡ calls
+  same-calls = calls-of-events calls (newState u number)
+
+  -- it gives the account of the run; the same passes in it, and the owner has the same of it
+  pub life-account-is : lifeAccount u (lifeOf u number calls) ≡ rules.account u number calls
+  life-account-is = life-account u number (lifeOf u number calls) life-lived ∙ ap (rules.account u number) same-calls
+
+  pub life-past-is : pastIn u (lifeOf u number calls) ≡ exchanges (newState u number) calls
+  life-past-is = life-past u number (lifeOf u number calls) life-lived ∙ ap (exchanges (newState u number)) same-calls
+
+  pub life-view-is : viewIn u (lifeOf u number calls) ≡ ownerView u number calls
+  life-view-is = life-view u number (lifeOf u number calls) life-lived ∙ ap (ownerView u number) same-calls
 
 -- ── a unit ──
 
@@ -180,15 +188,12 @@ abbrev pub livesOf : Settings → (ℕ → List Call) → ℕ → Life
 livesOf u calls i = lifeOf u i (calls i)
 
 -- a unit of the rules that meets what is supposed is one of the code
-module _ (u : Settings) (faulty : ℕ → Bool) (calls : ℕ → List Call) (ran : rules.Ran u faulty calls) where
-  lent-all : (i : ℕ) → Correct u faulty i → AllLent (calls i)
-  lent-all i ok = all-lent (calls i) (ran .lent i ok)
-
+module _ (u : Settings) (faulty : ℕ → Bool) (calls : ℕ → List Call) (ran : rules.AllRan u faulty calls) where
   pub lives-same : (i : ℕ) → Correct u faulty i → rules.accountOf u calls i ≡ accounts u (livesOf u calls) i
-  lives-same i ok = sym (life-account-is u i (calls i) (ran .made i ok) (lent-all i ok))
+  lives-same i ok = sym (life-account-is u i (calls i) (ran i ok))
 
-  pub lives-ran : (bag : List Request) → Supposed u faulty (rules.accountOf u calls) bag → Ran u faulty (livesOf u calls) bag
+  pub lives-ran : (bag : List Request) → Supposed u faulty (rules.accountOf u calls) bag → UnitRan u faulty (livesOf u calls) bag
   lives-ran bag sup = record {
-    lived = λ i ok. life-lived u i (calls i) (ran .made i ok) (lent-all i ok);
+    lived = λ i ok. life-lived u i (calls i) (ran i ok);
     supposed = supposed-same u faulty (rules.accountOf u calls) (accounts u (livesOf u calls)) lives-same bag sup;
   }

@@ -8,11 +8,12 @@ use Rattle.record.specs.declared.request.Request.{Request}
 use Rattle.rules.specs.Lists.{some}
 use Rattle.rules.specs.Batch.{failed, replyWith}
 use Rattle.rules.specs.Replica.{requestsOf}
+use Rattle.rules.specs.Run.{toGroup}
 use Rattle.rules.specs.Machine.{signedBy}
 use Rattle.rules.specs.Vote.{haltsFor}
 use Rattle.rules.specs.declared.Settings.{Settings}
 use Rattle.failstop.specs.Suppose.{Account, Correct, Orderly, Supposed, Authentic, CompleteForHalts}
-use Rattle.failstop.specs.Demand3.{machineOf, valueAt, toGroup, SameButReplies, Demand3}
+use Rattle.failstop.specs.Demand3.{machineOf, valueAt, SameButReplies, Demand3}
 use mathlib.Core.Bool.{true}
 use mathlib.Core.Logic.{_↔_}
 

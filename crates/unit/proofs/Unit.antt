@@ -1,6 +1,6 @@
 -- The third demand of the code, from the contracts of its functions.
 use Prim.Native.Nat.{ℕ}
-use mathlib.Core.Path.{_≡_, refl, _∙_}
+use mathlib.Core.Path.{_≡_, _∙_}
 use mathlib.Core.Bool.{Bool}
 use mathlib.Core.List.{List}
 use native.Mathlib.Omega.{arith}
@@ -16,8 +16,8 @@ use Rattle.ballot.specs.Answers.{voteAnswer, haltAnswer}
 use Rattle.ballot.specs.declared.count.VoteAnswer.{VoteAnswer}
 use Rattle.ballot.specs.declared.count.HaltAnswer.{HaltAnswer}
 use Rattle.unit.specs.Life.{Life}
-use Rattle.unit.specs.Unit.{accounts, Ran, Demand3OfCode}
-use Rattle.unit.proofs.Accounts.{callsOf, life-made, life-account, life-lent}
+use Rattle.unit.specs.Unit.{accounts, UnitRan, Demand3OfCode}
+use Rattle.unit.proofs.Accounts.{callsOf, life-ran, life-account}
 use Rattle.unit.proofs.Same.{supposed-same, claims-same}
 
 -- an answer of the code that stands for a value is that value
@@ -29,7 +29,7 @@ count-is : (answer : HaltAnswer) {count : ℕ} → haltAnswer answer ≡ given c
 count-is (HaltAnswer.Count c) {count} e = let i : c ≡ count = cc in rw i
 count-is (HaltAnswer.Refused number) e = absurd (let z : _≡_ {A = ℕ} 0 1 = cc in omega arith)
 
-module _ (u : Settings) (faulty : ℕ → Bool) (lives : ℕ → Life) (bag : List Request) (ran : Ran u faulty lives bag) where
+module _ (u : Settings) (faulty : ℕ → Bool) (lives : ℕ → Life) (bag : List Request) (ran : UnitRan u faulty lives bag) where
   -- each replica's calls, without their answers
   abbrev calls : ℕ → List Call
   calls i = callsOf (lives i .events)
@@ -39,10 +39,7 @@ module _ (u : Settings) (faulty : ℕ → Bool) (lives : ℕ → Life) (bag : Li
 
   claimed : Demand3 u faulty (accounts u lives) bag
   claimed =
-      let by-rules : rules.Ran u faulty calls = record {
-        made = λ i ok. life-made u i (lives i) (ran .lived i ok);
-        lent = λ i ok. life-lent u i (lives i) (ran .lived i ok);
-      } in
+      let by-rules : rules.AllRan u faulty calls = λ i ok. life-ran u i (lives i) (ran .lived i ok) in
       claims-same u faulty (accounts u lives) (rules.accountOf u calls) same bag
       (demand3 u faulty calls bag by-rules (supposed-same u faulty (accounts u lives) (rules.accountOf u calls) same bag (ran .supposed)))
 

@@ -1,2 +1,3 @@
 pub mod Life
 pub mod Unit
+pub mod Isolation

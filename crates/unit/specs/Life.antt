@@ -1,27 +1,25 @@
 -- The life of a replica of the code: how it was made, what passed between it and whoever called it, and what it is at the end.
 use Prim.Native.Nat.{ℕ}
 use mathlib.Core.Path.{_≡_}
-use mathlib.Core.List.{List, [], _∷_, _++_}
+use mathlib.Core.List.{List, [], _∷_, map}
+use Rattle.question.specs.Question.{mapAnswer, outcome}
 use Rattle.question.specs.declared.Outcome.{Outcome}
 use Rattle.layout.specs.Number.{Bytes}
-use Rattle.record.specs.Record.{readRequest}
 use Rattle.layout.specs.declared.clock.LocalTime.{LocalTime}
-use Rattle.record.specs.declared.message.Message.{Message}
-use Rattle.rules.specs.Run.{messagesIn, arrived}
-use Rattle.rules.specs.declared.Pending.{Pending}
+use Rattle.rules.specs.Run.{messagesIn, Exchange}
+use Rattle.rules.specs.Run as rules
 use Rattle.rules.specs.declared.Settings.{Settings}
-use Rattle.failstop.specs.Suppose.{Account}
-use Rattle.state.specs.State.{stateOf}
 use Rattle.state.specs.declared.state.Replica.{Replica}
 use Rattle.state.specs.declared.making.Made.{Made}
 use Rattle.state.proofs.Called.{Makes}
 use Rattle.delivery.proofs.Called.{Delivers}
+use Rattle.step.specs.Answer.{stepAnswer}
 use Rattle.step.specs.declared.stepping.StepAnswer.{StepAnswer}
 use Rattle.step.proofs.Called.{Steps}
 
 -- ── calls ──
 
--- what passes in a call
+-- what passes in a call of the code, its output included
 pub data Event : Type 0 where
   -- a delivery: the bytes, the local time and the outcome
   delivered : List ℕ → LocalTime → Outcome → Event
@@ -53,36 +51,12 @@ pub record Lived (u : Settings) (number : ℕ) (l : Life) : Type 0 where
   pub accepted : l .made .outcome ≡ Outcome.Done
   pub runs : Runs (l .made .replica) (l .events) (l .last)
 
--- ── what is told by the answers ──
+-- ── what passed, in the rules' words ──
 
--- the owner's request, if the delivery of one was accepted
-abbrev pub arrivedIn : Settings → Event → List Pending
-arrivedIn u (delivered bytes at Outcome.Done) = arrived (u .owner) at (readRequest (u .k) (u .groups) bytes)
-arrivedIn u (delivered bytes at (Outcome.Refused number)) = []
-arrivedIn u (stepped at output answer output′) = []
+-- the answer's number, and of a step the messages whose records it counted, read from the output afterwards
+abbrev pub exchangeIn : Settings → Event → Exchange
+exchangeIn u (delivered bytes at answer) = rules.delivered bytes at (outcome answer)
+exchangeIn u (stepped at output answer output′) = rules.turned at (mapAnswer (λ count. messagesIn (u .k) (u .groups) count output′) (stepAnswer answer))
 
--- the local time of an accepted step
-abbrev pub stepIn : Event → List LocalTime
-stepIn (delivered bytes at outcome) = []
-stepIn (stepped at output (StepAnswer.Sent count) output′) = at ∷ []
-stepIn (stepped at output (StepAnswer.Refused number) output′) = []
-
--- the messages whose records it counted, read from the output
-abbrev pub sentIn : Settings → Event → List Message
-sentIn u (delivered bytes at outcome) = []
-sentIn u (stepped at output (StepAnswer.Sent count) output′) = messagesIn (u .k) (u .groups) count output′
-sentIn u (stepped at output (StepAnswer.Refused number) output′) = []
-
--- of all events, one after the other
-abbrev pub gather : {A : Type 0} → (Event → List A) → List Event → List A
-gather f [] = []
-gather f (e ∷ events) = f e ++ gather f events
-
--- the account that a life gives of itself
-abbrev pub accountIn : Settings → Life → Account
-accountIn u l = record {
-  arrivals = gather (arrivedIn u) (l .events);
-  steps = gather stepIn (l .events);
-  sent = gather (sentIn u) (l .events);
-  store = stateOf (l .last) .store;
-}
+abbrev pub pastIn : Settings → Life → List Exchange
+pastIn u l = map (exchangeIn u) (l .events)

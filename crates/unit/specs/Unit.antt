@@ -11,19 +11,24 @@ use Rattle.record.specs.declared.request.Request.{Request}
 use Rattle.rules.specs.Batch.{failed}
 use Rattle.rules.specs.Vote.{queryOf}
 use Rattle.rules.specs.declared.Settings.{Settings}
-use Rattle.failstop.specs.Suppose.{Account, Correct, Authentic, CompleteForRead, CompleteForHalts, Supposed}
+use Rattle.failstop.specs.Suppose.{Account, accountIn, Correct, Authentic, CompleteForRead, CompleteForHalts, Supposed}
 use Rattle.failstop.specs.Demand3.{machineOf, valueAt, Unmixed, Demand3}
+use Rattle.state.specs.State.{stateOf}
 use Rattle.ballot.specs.declared.count.VoteAnswer.{VoteAnswer}
 use Rattle.ballot.specs.declared.count.HaltAnswer.{HaltAnswer}
 use Rattle.vote.proofs.Called.{Votes, Counts}
-use Rattle.unit.specs.Life.{Life, Lived, accountIn}
+use Rattle.unit.specs.Life.{Life, Lived, pastIn}
+
+-- the account that a life gives of itself
+abbrev pub lifeAccount : Settings → Life → Account
+lifeAccount u l = accountIn u (pastIn u l) (stateOf (l .last) .store)
 
 -- the replicas' own accounts
 abbrev pub accounts : Settings → (ℕ → Life) → ℕ → Account
-accounts u lives i = accountIn u (lives i)
+accounts u lives i = lifeAccount u (lives i)
 
 -- what is supposed: the code made and ran each correct replica, and the accounts meet all that the third demand supposes
-pub record Ran (u : Settings) (faulty : ℕ → Bool) (lives : ℕ → Life) (bag : List Request) : Type 0 where
+pub record UnitRan (u : Settings) (faulty : ℕ → Bool) (lives : ℕ → Life) (bag : List Request) : Type 0 where
   pub lived : (i : ℕ) → Correct u faulty i → Lived u i (lives i)
   pub supposed : Supposed u faulty (accounts u lives) bag
 

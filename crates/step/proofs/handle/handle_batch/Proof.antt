@@ -1,7 +1,7 @@
 -- Each way through the code is one of the four things that may come of a batch.
 use Prim.Native.Nat.{ℕ}
 use mathlib.Core.Path.{_≡_, refl, sym, ap, _∙_}
-use mathlib.Core.Bool.{true, false, not}
+use mathlib.Core.Bool.{true, false}
 use mathlib.Core.List.{List}
 use lib.ListN.{set}
 use borrow.Author.Tests.{not-true, not-false}

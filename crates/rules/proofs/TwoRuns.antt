@@ -1,0 +1,16 @@
+-- The owner has of each run what it should: one statement, computed.
+use mathlib.Core.Path.{_≡_, refl}
+use mathlib.Core.List.{map, flatMap}
+use Rattle.question.specs.Question.{ask, unitQuestions}
+use Rattle.layout.specs.Number.{number, digits}
+use Rattle.layout.specs.Layout.{fieldsOf, bytesOf}
+use Rattle.record.specs.Record.{fieldQuestions, readFields, writeFields}
+use Rattle.rules.specs.Batch.{verdictOf, handle}
+use Rattle.rules.specs.Replica.{admit, deliver, handleBatch, visit, visitGroup, visits, put, putAll, stepped, step}
+use Rattle.rules.specs.Run.{messagesIn, call, run, exchanges}
+use Rattle.rules.specs.Owner.{ownerView}
+use Rattle.rules.specs.TwoRuns.{three, seen, rows}
+
+pub two-runs-hold : map (λ row. seen (ownerView three 1 (row .calls))) rows ≡ map (λ row. row .expected) rows
+unfolding ask unitQuestions number digits fieldsOf bytesOf fieldQuestions readFields writeFields verdictOf handle admit deliver handleBatch visit visitGroup visits put putAll stepped step messagesIn call run exchanges flatMap
+two-runs-hold = refl
