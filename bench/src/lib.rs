@@ -16,6 +16,8 @@ pub mod convert;
 pub mod differential;
 #[cfg(feature = "linked")]
 pub mod ffi;
+#[cfg(feature = "linked")]
+pub mod isolation;
 #[cfg(feature = "mutants")]
 pub mod mutants;
 #[cfg(feature = "linked")]

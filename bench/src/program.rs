@@ -1,5 +1,5 @@
-//! What the programs `differential` and `simulation` have in common: numbered
-//! inputs that come from a seed, and how they end.
+//! What the programs `differential`, `simulation` and `isolation` have in common:
+//! numbered inputs that come from a seed, and how they end.
 
 use std::process::ExitCode;
 
@@ -32,7 +32,7 @@ impl Arguments {
         numbers.map(move |number| (number, Random::of_run(self.seed, number)))
     }
 
-    /// Prints a difference in a numbered run or unit, and ends with 1.
+    /// Prints a difference in a numbered run, unit or pair, and ends with 1.
     pub fn differ(self, kind: &str, number: u64, difference: &Difference) -> ExitCode {
         println!("DIFFERENCE in {kind} {number} from seed {}: {}", self.seed, difference.what);
         println!("input: {}", difference.input);

@@ -1,8 +1,10 @@
 //! Generated requests: the batches that a unit's processes make, in order,
 //! out of order, repeated and late.
 
-use crate::model::record::{Operation, Request};
-use crate::model::{Timestamp, GROUP_LIMIT, K_LIMIT};
+use std::collections::BTreeSet;
+
+use crate::model::record::{Operation, Request, RequestFields, WRITE};
+use crate::model::{Timestamp, DELTA_LIMIT, GROUP_LIMIT, K_LIMIT};
 use crate::random::Random;
 
 /// Who takes part: k, the number of groups and the owner.
@@ -39,6 +41,11 @@ impl Cast {
     pub fn guest(self, random: &mut Random) -> Option<u8> {
         let group = self.group(random);
         (group != self.owner).then_some(group)
+    }
+
+    /// All groups but the owner's.
+    pub fn guests(self) -> Vec<u8> {
+        (1..=self.groups).filter(|&group| group != self.owner).collect()
     }
 }
 
@@ -101,6 +108,42 @@ pub fn first_timestamp(random: &mut Random) -> u64 {
         3 => u64::MAX - random.below(40),
         _ => random.below(1_000_000),
     }
+}
+
+/// A delta that is allowed, at both ends too.
+pub fn delta(random: &mut Random) -> u64 {
+    match random.below(8) {
+        0 => 0,
+        1 => 1,
+        2 | 3 => 5,
+        4 => DELTA_LIMIT,
+        5 => random.below(DELTA_LIMIT + 1),
+        _ => random.below(100),
+    }
+}
+
+/// Changes one byte, mostly to a value at some limit.
+pub fn damage(bytes: &mut [u8], random: &mut Random) {
+    if bytes.is_empty() {
+        return;
+    }
+    let place = random.index(bytes.len());
+    bytes[place] = match random.below(4) {
+        0 => random.byte(),
+        1 => bytes[place] ^ (1 << random.below(8)),
+        2 => bytes[place].wrapping_add(1),
+        _ => random.pick(&[0, 1, 2, 3, 4, 5, 6, 255]),
+    };
+}
+
+/// Whether a batch is the same write from each of k + 1 processes.
+pub fn is_unanimous(k: u8, batch: &[RequestFields]) -> bool {
+    let quorum = usize::from(k) + 1;
+    let unsigned = |request: &RequestFields| RequestFields { process: 0, ..*request };
+    let processes: BTreeSet<u8> = batch.iter().map(|request| request.process).collect();
+    let same = batch.windows(2).all(|two| unsigned(&two[0]) == unsigned(&two[1]));
+    let writes = batch.iter().all(|request| request.kind == WRITE);
+    writes && same && batch.len() == quorum && processes.len() == quorum
 }
 
 /// The requests of a group with one timestamp.
@@ -192,8 +235,8 @@ pub struct Traffic {
     dissent: u64,
     /// How often in a thousand a delivered request comes again.
     repeats: u64,
-    /// A group that makes most of the batches.
-    busy: Option<u8>,
+    /// A group that makes more of the batches than the others, and how many of four.
+    busy: Option<(u8, u64)>,
 }
 
 impl Traffic {
@@ -212,8 +255,13 @@ impl Traffic {
 
     /// Traffic of which most comes from one group.
     pub fn busy(cast: Cast, random: &mut Random) -> Traffic {
-        let busy = Some(cast.group(random));
+        let busy = Some((cast.group(random), 3));
         Traffic { busy, ..Traffic::new(cast, random) }
+    }
+
+    /// Traffic of one group alone.
+    pub fn of_group(cast: Cast, group: u8, random: &mut Random) -> Traffic {
+        Traffic { busy: Some((group, 4)), ..Traffic::new(cast, random) }
     }
 
     /// Traffic in order and without dissent or repeats.
@@ -263,7 +311,7 @@ impl Traffic {
 
     fn next_group(&self, random: &mut Random) -> u8 {
         match self.busy {
-            Some(busy) if random.chance(3, 4) => busy,
+            Some((busy, times)) if random.chance(times, 4) => busy,
             _ => self.cast.group(random),
         }
     }

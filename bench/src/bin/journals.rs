@@ -69,8 +69,9 @@ fn main() -> io::Result<()> {
     };
     let folder = Path::new(&folder);
     let refused = [refused_first(), refused_requests(), refused_times(), refused_records()];
-    let others = [plain(), queues(), examples(), units(), runs(), ends(), random(), long()];
-    for (name, bytes) in [refused.concat(), others.concat()].concat() {
+    let units = [examples(), units(), runs(), guests(), ends()];
+    let others = [plain(), queues(), random(), long()];
+    for (name, bytes) in [refused.concat(), units.concat(), others.concat()].concat() {
         fs::write(folder.join(name), bytes)?;
     }
     Ok(())
@@ -412,6 +413,89 @@ fn runs() -> Journals {
         ("ends-of-variables", handled(&[&last[..], &first, &reads].concat())),
         ("reads-after-freeze", example(&after)),
         ("arrival-at-delta", example(&edge)),
+    ]
+}
+
+/// Two journals that differ in their guests alone, of a unit with k = 1, N = 3, owner 2 and δ = 5.
+/// Each of the three cards gets the same: the owner writes and reads it back; it fills its shelf; it
+/// dissents, and reads on. A guest is visited before it and one after it.
+fn guests() -> Journals {
+    let acts =
+        |card| [guests_at_writes(card), guests_at_full_shelves(card), guests_at_dissent(card)];
+    let cards: Vec<Pair> = (1..=3).flat_map(|card| acts(card).concat()).collect();
+    let journal = |which: usize| {
+        let entries: Vec<Entry> = cards.iter().map(|pair| pair[which]).collect();
+        [&[setup_entry(1, 3, 2, 5)], &entries[..]].concat().concat()
+    };
+    vec![("guests-quiet", journal(0)), ("guests-loud", journal(1))]
+}
+
+/// A record of the quiet journal, and the one at its place in the loud journal.
+type Pair = [Entry; 2];
+
+/// What is no request, and refused with 7.
+const NOTHING: Request = [0; RECORD_SIZE];
+const NOISE: Request = [255; RECORD_SIZE];
+
+/// A guest's delivery, or what is none: the time of the quiet one, of the loud one, and their bytes.
+fn guest(card: u8, times: [u64; 2], quiet: Request, loud: Request) -> Pair {
+    [delivery_entry(card, times[0], &quiet), delivery_entry(card, times[1], &loud)]
+}
+
+fn owner(card: u8, at: u64, kind: u8, process: u8, variable: u16, stamp: u64, value: u32) -> Pair {
+    [delivery_entry(card, at, &request(kind, 2, process, variable, stamp, value)); 2]
+}
+
+/// The owner writes unanimously, reads it back, and is refused with 10. The loud guests write with
+/// its stamp: group 1 unanimously, group 3 not. A read of group 3 is handled at this turn in the
+/// quiet one alone, for in the loud one it comes later.
+fn guests_at_writes(card: u8) -> Vec<Pair> {
+    let write = |group, process, value| request(WRITE, group, process, 4, 10, value);
+    let read = |group, process, stamp| request(READ, group, process, 4, stamp, 0);
+    vec![
+        guest(card, [100, 100], read(1, 1, 1), write(1, 1, 99)),
+        owner(card, 100, WRITE, 1, 4, 10, 7),
+        guest(card, [100, 101], NOTHING, write(1, 2, 99)),
+        owner(card, 101, WRITE, 2, 4, 10, 7),
+        guest(card, [101, 102], NOTHING, write(3, 1, 1)),
+        owner(card, 102, READ, 1, 4, 11, 0),
+        guest(card, [103, 102], read(3, 2, 10), write(3, 2, 2)),
+        owner(card, 103, WRITE, 1, 0, 12, 9),
+        guest(card, [103, 105], NOTHING, NOISE),
+        guest(card, [104, 106], read(3, 1, 12), read(3, 1, 12)),
+        [step_entry(card, 110); 2],
+    ]
+}
+
+/// Seventeen reads of the owner, the last of which gets 14. The loud guest does the same.
+fn guests_at_full_shelves(card: u8) -> Vec<Pair> {
+    let mut list = Vec::new();
+    for (place, stamp) in (0..17).zip(40..) {
+        let process = 1 + place % 2;
+        let loud = request(READ, 1, process, 4, stamp, 0);
+        list.push(guest(card, [120, 120], NOTHING, loud));
+        list.push(owner(card, 120, READ, process, 4, 20 + u64::from(place / 2), 0));
+    }
+    list.push([step_entry(card, 126); 2]);
+    list
+}
+
+/// The owner dissents, and reads variable 0 and what it wrote. The loud guests dissent, too, and write
+/// what the owner writes, with its stamp.
+fn guests_at_dissent(card: u8) -> Vec<Pair> {
+    let read = |group, stamp| request(READ, group, 1, 0, stamp, 0);
+    let write =
+        |group, process, variable, value| request(WRITE, group, process, variable, 50, value);
+    vec![
+        guest(card, [130, 130], read(1, 50), write(1, 1, 9, 5)),
+        owner(card, 130, WRITE, 1, 4, 50, 8),
+        guest(card, [131, 130], NOTHING, write(1, 2, 9, 6)),
+        owner(card, 131, WRITE, 2, 4, 50, 9),
+        guest(card, [131, 131], NOTHING, write(3, 1, 4, 8)),
+        owner(card, 132, READ, 2, 0, 51, 0),
+        owner(card, 132, READ, 1, 4, 52, 0),
+        guest(card, [132, 133], read(3, 60), read(3, 60)),
+        [step_entry(card, 140); 2],
     ]
 }
 

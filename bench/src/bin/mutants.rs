@@ -1,7 +1,7 @@
 //! Shows that the harness can fail: each mutant must be found.
 //!
-//! Runs `differential` and `simulation`, built with the feature `mutants` and standing
-//! beside this program, once without a mutant and once with each of them.
+//! Runs `differential`, `simulation` and `isolation`, built with the feature `mutants` and
+//! standing beside this program, once without a mutant and once with each of them.
 
 use std::io;
 use std::path::{Path, PathBuf};
@@ -12,11 +12,13 @@ use bench::mutants::list::MUTANTS;
 
 const RUNS: &str = "20000";
 const UNITS: &str = "4000";
+const PAIRS: &str = "4000";
 
 /// The programs that stand beside this one.
 struct Programs {
     differential: PathBuf,
     simulation: PathBuf,
+    isolation: PathBuf,
     journal: PathBuf,
 }
 
@@ -32,6 +34,7 @@ fn main() -> io::Result<ExitCode> {
     let programs = Programs {
         differential: beside("differential"),
         simulation: beside("simulation"),
+        isolation: beside("isolation"),
         journal: beside("model_journal"),
     };
     let unnoticed =
@@ -40,12 +43,13 @@ fn main() -> io::Result<ExitCode> {
     Ok(if unnoticed == 0 { ExitCode::SUCCESS } else { ExitCode::FAILURE })
 }
 
-/// Without a mutant both programs must pass.
+/// Without a mutant all programs must pass.
 fn without_mutant(programs: &Programs) -> io::Result<usize> {
     let journal = programs.journal.as_os_str();
     let verdicts = [
         run(Command::new(&programs.differential).arg(RUNS).env("JOURNAL", journal))?,
         run(Command::new(&programs.simulation).arg(UNITS))?,
+        run(Command::new(&programs.isolation).arg(PAIRS))?,
     ];
     for verdict in &verdicts {
         println!("no mutant: {}", if verdict.passed { "passed" } else { "NOT PASSED" });
@@ -53,17 +57,20 @@ fn without_mutant(programs: &Programs) -> io::Result<usize> {
     Ok(verdicts.iter().filter(|verdict| !verdict.passed).count())
 }
 
-/// The differential must find each mutant, the simulation those that show in it.
+/// The differential must find each mutant, the others those that show in them.
 fn mutants_of_calls(programs: &Programs) -> io::Result<usize> {
     let mut unnoticed = 0;
-    for (place, (_, what, shows_in_simulation)) in MUTANTS.iter().enumerate() {
+    for (place, (_, what, shown)) in MUTANTS.iter().enumerate() {
         let number = (place + 1).to_string();
         println!("mutant {number}: {what}");
         let with_mutant =
             |program: &Path, amount| run(Command::new(program).arg(amount).env("MUTANT", &number));
-        unnoticed += report("differential", true, with_mutant(&programs.differential, RUNS)?);
-        unnoticed +=
-            report("simulation", *shows_in_simulation, with_mutant(&programs.simulation, UNITS)?);
+        let found = with_mutant(&programs.differential, RUNS)?;
+        unnoticed += report("differential", true, found);
+        let found = with_mutant(&programs.simulation, UNITS)?;
+        unnoticed += report("simulation", shown.in_simulation, found);
+        let found = with_mutant(&programs.isolation, PAIRS)?;
+        unnoticed += report("isolation", shown.in_isolation, found);
     }
     Ok(unnoticed)
 }

@@ -5,14 +5,13 @@ use std::path::{Path, PathBuf};
 use std::process::{Child, Command, ExitStatus, Stdio};
 use std::thread;
 
-use super::records::damage;
 use super::tally::{Call, Event, Tally};
 use super::{same, Outcome};
 use crate::difference::Difference;
 use crate::model::journal::{delivery_entry, play_bytes, setup_entry, step_entry, ENTRY_SIZE};
 use crate::model::{DELTA_LIMIT, PENDING_LIMIT, RECORD_SIZE, TIME_LIMIT};
 use crate::random::Random;
-use crate::traffic::{Cast, Traffic};
+use crate::traffic::{damage, Cast, Traffic};
 
 /// Where the journal program stands: the variable JOURNAL, or the place where
 /// the build puts it.

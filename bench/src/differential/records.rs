@@ -116,23 +116,9 @@ fn some_bytes(record: [u8; RECORD_SIZE], length: usize, random: &mut Random) -> 
     let common = length.min(RECORD_SIZE);
     bytes[..common].copy_from_slice(&record[..common]);
     if random.chance(1, 3) {
-        damage(&mut bytes, random);
+        traffic::damage(&mut bytes, random);
     }
     bytes
-}
-
-/// Changes one byte, mostly to a value at some limit.
-pub fn damage(bytes: &mut [u8], random: &mut Random) {
-    if bytes.is_empty() {
-        return;
-    }
-    let place = random.index(bytes.len());
-    bytes[place] = match random.below(4) {
-        0 => random.byte(),
-        1 => bytes[place] ^ (1 << random.below(8)),
-        2 => bytes[place].wrapping_add(1),
-        _ => random.pick(&[0, 1, 2, 3, 4, 5, 6, 255]),
-    };
 }
 
 fn read_request(k: u8, n: u8, bytes: &[u8], tally: &mut Tally) -> Outcome {

@@ -1,7 +1,6 @@
 //! Runs of deliveries and steps on a new replica.
 
 use super::pair::{make, Making, Pair};
-use super::records::damage;
 use super::tally::{Event, Tally};
 use super::Outcome;
 use crate::model::record::{Operation, Request};
@@ -45,23 +44,12 @@ fn cast_of(making: Making) -> Cast {
 fn some_making(random: &mut Random) -> Making {
     let cast = Cast::random(random);
     let number = random.small(1, cast.replicas());
-    let delta = some_delta(random);
+    let delta = traffic::delta(random);
     let mut making = Making { k: cast.k, groups: cast.groups, owner: cast.owner, delta, number };
     if random.chance(1, 16) {
         spoil(&mut making, random);
     }
     making
-}
-
-fn some_delta(random: &mut Random) -> u64 {
-    match random.below(8) {
-        0 => 0,
-        1 => 1,
-        2 | 3 => 5,
-        4 => DELTA_LIMIT,
-        5 => random.below(DELTA_LIMIT + 1),
-        _ => random.below(100),
-    }
 }
 
 fn spoil(making: &mut Making, random: &mut Random) {
@@ -197,7 +185,7 @@ fn some_request_bytes(traffic: &mut Traffic, style: Style, random: &mut Random) 
         match random.below(6) {
             0 => bytes.truncate(random.index(RECORD_SIZE)),
             1 => bytes.extend([0; 3]),
-            _ => damage(&mut bytes, random),
+            _ => traffic::damage(&mut bytes, random),
         }
     }
     bytes

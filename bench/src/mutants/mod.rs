@@ -2,6 +2,7 @@
 //! mutant with one small bug. The variable MUTANT says which it is; without it
 //! there is no bug.
 
+mod guests;
 pub mod journal;
 pub mod list;
 mod queues;

@@ -2,6 +2,7 @@
 
 use std::collections::BTreeSet;
 
+use super::guests;
 use super::list::{chosen, is, Mutant};
 use crate::convert::from_replica;
 use crate::ffi;
@@ -11,7 +12,7 @@ use crate::model::{LocalTime, Refusal, Timestamp};
 use crate::model::{FAILED, OUTPUT_SIZE, QUEUES, QUEUE_LIMIT, RECORD_SIZE, TIME_LIMIT};
 
 /// The number of messages that a step sends.
-type Stepped = Result<usize, Refusal>;
+pub type Stepped = Result<usize, Refusal>;
 
 /// Takes one more request out of the places of a group, if it looks like one.
 pub fn before_step(model: &mut Replica, replica: &ffi::Replica) {
@@ -47,6 +48,11 @@ pub fn step(replica: &mut Replica, at: LocalTime, output: &mut [u8]) -> Stepped 
         Some(Mutant::FailedIsSilent) => silent_when_failed(replica, at, output),
         Some(Mutant::SignedTimestamps) => with_signed_timestamps(replica, at, output),
         Some(Mutant::NextQueueVisited) => visiting_next_queue(replica, at, output),
+        Some(Mutant::OneQueueForAll) => guests::one_queue(replica, at, output),
+        Some(Mutant::UnstableGuestEndsStep) => guests::unstable_ends_step(replica, at, output),
+        Some(Mutant::GuestWrites) => guests::writing(replica, at, output),
+        Some(Mutant::GuestFreezes) => guests::freezing(replica, at, output),
+        Some(Mutant::ThirtyTwoMessages) => cut_off(replica, at, output),
         Some(Mutant::LastTimeRefused) if at == TIME_LIMIT => Err(Refusal::TimeTooLarge),
         _ => spoiled_afterwards(replica, at, output),
     }
@@ -86,7 +92,7 @@ fn timestamp_of(pending: &Pending) -> Timestamp {
 }
 
 /// The timestamps of a queue's batches.
-fn batches(queue: &Queue) -> BTreeSet<Timestamp> {
+pub fn batches(queue: &Queue) -> BTreeSet<Timestamp> {
     queue.iter().map(timestamp_of).collect()
 }
 
@@ -167,6 +173,15 @@ fn without_last_halt(replica: &mut Replica, at: LocalTime, output: &mut [u8]) ->
         output[last..].copy_from_slice(&before[last..]);
         return Ok(count - 1);
     }
+    Ok(count)
+}
+
+/// A step that sends its first 32 messages.
+fn cut_off(replica: &mut Replica, at: LocalTime, output: &mut [u8]) -> Stepped {
+    let before = output.to_vec();
+    let count = replica.step(at, output)?.min(32);
+    let end = count * RECORD_SIZE;
+    output[end..].copy_from_slice(&before[end..]);
     Ok(count)
 }
 

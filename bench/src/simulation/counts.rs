@@ -22,7 +22,6 @@ pub struct Counts {
     pub guest_requests: u64,
     pub guests_without_room: u64,
     pub served_beside_full: u64,
-    pub without_guests: u64,
     pub refused_calls: u64,
     pub steps: u64,
     pub frozen: u64,
@@ -62,7 +61,7 @@ impl Counts {
         for (times, way) in self.ways.iter().zip(WAYS) {
             rows.push((*times, format!("lying replicas: {way}"), true));
         }
-        let more: [(u64, &str, bool); 20] = [
+        let more: [(u64, &str, bool); 19] = [
             (self.with_k_liars, "units with k lying replicas", true),
             (self.busy, "units with a guest that sends more than its queue holds", true),
             (self.discarded, "units without room for a request of the owner", true),
@@ -78,7 +77,6 @@ impl Counts {
             (self.refused_calls, "calls that had to be refused", true),
             (self.steps, "steps", true),
             (self.served_beside_full, "steps for the owner while a guest's queue was full", true),
-            (self.without_guests, "runs that were for the owner as they are without guests", true),
             (self.votes, "votes", true),
             (self.halt_counts, "halt counts", true),
             (self.lies, "lies in the lists", true),

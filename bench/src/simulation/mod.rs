@@ -23,7 +23,7 @@ use crate::model::vote::{count_halts, Query};
 use crate::random::Random;
 use crate::traffic::Cast;
 
-use bus::{some_schedule, Happening, Schedule};
+use bus::some_schedule;
 use lists::Lists;
 use plan::{some_plan, Plan};
 use player::{play, Run};
@@ -38,7 +38,7 @@ pub fn simulate(random: &mut Random, counts: &mut Counts) -> Result<(), Differen
 
 fn carry_out(plan: &Plan, random: &mut Random, counts: &mut Counts) -> Result<(), String> {
     let runs = run_correct(plan, random, counts)?;
-    if runs.iter().any(|run| !run.refused.is_empty()) {
+    if runs.iter().any(|run| run.refused) {
         // The bags are not the same, so there is no machine for all.
         counts.discarded += 1;
         return Ok(());
@@ -57,30 +57,9 @@ fn run_correct(plan: &Plan, random: &mut Random, counts: &mut Counts) -> Result<
         let schedule = some_schedule(plan, random);
         let run = play(plan, number, &schedule, random, counts)?;
         compare_with_machine(plan, &run)?;
-        if plan.cast.groups > 1 {
-            compare_without_guests(plan, &schedule, &run, random)?;
-            counts.without_guests += 1;
-        }
         runs.push(run);
     }
     Ok(runs)
-}
-
-/// The owner must be served as if there were no guests: without them the same
-/// of its requests are refused, and it is sent the same.
-fn compare_without_guests(
-    plan: &Plan,
-    schedule: &Schedule,
-    run: &Run,
-    random: &mut Random,
-) -> Result<(), String> {
-    let owner = plan.cast.owner;
-    let is_guests = |happening: &Happening| matches!(happening, Happening::Guest(_));
-    let alone = schedule.iter().copied().filter(|(_, happening)| !is_guests(happening)).collect();
-    let alone = play(plan, run.number, &alone, random, &mut Counts::default())?;
-    compare("without guests, refused requests of the owner", &alone.refused, &run.refused)?;
-    compare("without guests, accepted ones", &alone.accepted, &run.accepted)?;
-    compare("without guests, messages", alone.messages_to(owner), run.messages_to(owner))
 }
 
 /// A correct replica must hold and have sent what the machine holds and says.

@@ -15,8 +15,8 @@ pub struct Run {
     pub replica: ffi::Replica,
     /// The owner's accepted requests in order of arrival.
     pub accepted: Vec<Request>,
-    /// Those of its requests for which there was no room.
-    pub refused: Vec<Request>,
+    /// Whether there was no room for one of its requests.
+    pub refused: bool,
     /// All messages of its accepted steps, in order.
     pub messages: Vec<Message>,
 }
@@ -49,8 +49,8 @@ pub fn play(
     let (k, groups, owner, delta) = (cast.k, cast.groups, cast.owner, plan.delta);
     let made = ffi::make(ffi::Settings { k, groups, owner, delta }, number);
     expect("make", made.refusal == 0, made.refusal)?;
-    let (accepted, refused, messages) = (Vec::new(), Vec::new(), Vec::new());
-    let run = Run { number, replica: made.replica, accepted, refused, messages };
+    let (accepted, messages) = (Vec::new(), Vec::new());
+    let run = Run { number, replica: made.replica, accepted, refused: false, messages };
     let mut player = Player { settings, owner, run, counts };
     for &(at, happening) in schedule {
         match happening {
@@ -107,7 +107,7 @@ impl Player<'_> {
             self.run.accepted.push(request);
         } else {
             self.counts.owners_without_room += 1;
-            self.run.refused.push(request);
+            self.run.refused = true;
         }
         Ok(())
     }
