@@ -4,7 +4,7 @@
 use std::collections::BTreeSet;
 
 use crate::model::record::{Operation, Request, RequestFields, WRITE};
-use crate::model::{Timestamp, DELTA_LIMIT, GROUP_LIMIT, K_LIMIT};
+use crate::model::{Timestamp, DELTA_LIMIT, GROUP_LIMIT, K_LIMIT, TIME_LIMIT};
 use crate::random::Random;
 
 /// Who takes part: k, the number of groups and the owner.
@@ -107,6 +107,16 @@ pub fn first_timestamp(random: &mut Random) -> u64 {
         2 => (1 << 63) - random.below(4),
         3 => u64::MAX - random.below(40),
         _ => random.below(1_000_000),
+    }
+}
+
+/// A local time to start from: 0, any, or near the end.
+pub fn start(delta: u64, random: &mut Random) -> u64 {
+    match random.below(12) {
+        0 => 0,
+        1 => TIME_LIMIT.0 - random.below(3),
+        2 => TIME_LIMIT.0 - random.below(8 * delta + 8),
+        _ => random.below(1_000_000_000),
     }
 }
 

@@ -421,7 +421,7 @@ fn runs() -> Journals {
 /// dissents, and reads on. A guest is visited before it and one after it.
 fn guests() -> Journals {
     let acts =
-        |card| [guests_at_writes(card), guests_at_full_shelves(card), guests_at_dissent(card)];
+        |card| [guests_at_writes(card), guests_at_full_queues(card), guests_at_dissent(card)];
     let cards: Vec<Pair> = (1..=3).flat_map(|card| acts(card).concat()).collect();
     let journal = |which: usize| {
         let entries: Vec<Entry> = cards.iter().map(|pair| pair[which]).collect();
@@ -468,7 +468,7 @@ fn guests_at_writes(card: u8) -> Vec<Pair> {
 }
 
 /// Seventeen reads of the owner, the last of which gets 14. The loud guest does the same.
-fn guests_at_full_shelves(card: u8) -> Vec<Pair> {
+fn guests_at_full_queues(card: u8) -> Vec<Pair> {
     let mut list = Vec::new();
     for (place, stamp) in (0..17).zip(40..) {
         let process = 1 + place % 2;

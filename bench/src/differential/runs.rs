@@ -66,22 +66,12 @@ fn spoil(making: &mut Making, random: &mut Random) {
 
 fn some_style(delta: u64, random: &mut Random) -> Style {
     Style {
-        start: some_start(delta, random),
+        start: traffic::start(delta, random),
         pace: random.pick(&[0, 1, delta / 16, delta / 4, delta, 3 * delta + 2]),
         steps: random.pick(&[3, 8, 8, 20, 60]),
         damage: random.pick(&[0, 20, 120]),
         bad_times: random.pick(&[0, 20, 120]),
         calls: random.between(1, 110),
-    }
-}
-
-/// A local time to start from: 0, any, or near the end.
-fn some_start(delta: u64, random: &mut Random) -> u64 {
-    match random.below(12) {
-        0 => 0,
-        1 => TIME_LIMIT.0 - random.below(3),
-        2 => TIME_LIMIT.0 - random.below(8 * delta + 8),
-        _ => random.below(1_000_000_000),
     }
 }
 
@@ -113,7 +103,7 @@ fn flood(pair: &mut Pair, making: Making, random: &mut Random, tally: &mut Tally
         0 => Traffic::new(cast, random),
         _ => Traffic::busy(cast, random),
     };
-    let mut at = some_start(making.delta, random);
+    let mut at = traffic::start(making.delta, random);
     for _ in 0..usize::from(cast.groups) * (QUEUE_LIMIT + 4) {
         at = (at + random.below(2)).min(TIME_LIMIT.0);
         pair.deliver(&traffic.next(random).encode(), at, tally)?;

@@ -3,7 +3,7 @@
 use super::plan::{Call, Delivery};
 use crate::model::{OUTPUT_SIZE, RECORD_SIZE, TIME_LIMIT};
 use crate::random::Random;
-use crate::traffic::{damage, Cast, Traffic};
+use crate::traffic::{damage, start, Cast, Traffic};
 
 /// How the calls go.
 #[derive(Clone, Copy)]
@@ -31,7 +31,7 @@ fn some_style(delta: u64, random: &mut Random) -> Style {
 pub fn some_calls(cast: Cast, delta: u64, random: &mut Random) -> Vec<Call> {
     let style = some_style(delta, random);
     let mut traffic = Traffic::of_group(cast, cast.owner, random);
-    let mut at = some_start(delta, random);
+    let mut at = start(delta, random);
     let mut calls = Vec::new();
     for _ in 0..style.calls {
         at = some_time(at, delta, style.pace, &calls, random);
@@ -49,16 +49,6 @@ pub fn some_calls(cast: Cast, delta: u64, random: &mut Random) -> Vec<Call> {
         add_too_late(cast.owner, &mut traffic, &mut calls, random);
     }
     calls
-}
-
-/// A local time to start from: 0, any, or near the end.
-fn some_start(delta: u64, random: &mut Random) -> u64 {
-    match random.below(12) {
-        0 => 0,
-        1 => TIME_LIMIT.0 - random.below(3),
-        2 => TIME_LIMIT.0 - random.below(8 * delta + 8),
-        _ => random.below(1_000_000_000),
-    }
 }
 
 /// A local time for the next call, also one at which an earlier arrival is just

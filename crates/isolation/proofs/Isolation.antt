@@ -2,7 +2,7 @@
 -- every step had an output of its own. Of two runs with the same calls of the owner it then has the same.
 use Prim.Native.Nat.{ℕ}
 use mathlib.Core.Path.{_≡_, refl, sym, _∙_, ap}
-use mathlib.Core.Bool.{true, false, cond}
+use mathlib.Core.Bool.{Bool, true, cond}
 use mathlib.Core.List.{List, [], _∷_, _++_, flatMap, List·Memᴰ·head, List·Memᴰ·tail}
 use native.Mathlib.Omega.{arith}
 use lib.Dec.{leb}
@@ -52,27 +52,15 @@ module _ (u : Settings) where
     abbrev next : State
     next = call s (delivery bytes now) .state
 
-    view-first : viewOf u s (delivery bytes now ∷ calls)
-        ≡ ahead (cond (isOwners u bytes) (verdict (deliver s bytes now) ∷ []) []) [] (viewOf u next calls)
-    unfolding run exchanges flatMap
-    view-first = refl
+    -- whosever the delivery is
+    module _ {b : Bool} (e : isOwners u bytes ≡ b) where
+      view-delivery : viewOf u s (delivery bytes now ∷ calls) ≡ ahead (cond b (verdict (deliver s bytes now) ∷ []) []) [] (viewOf u next calls)
+      unfolding run exchanges flatMap
+      view-delivery = ap (λ x. ahead (cond x (verdict (deliver s bytes now) ∷ []) []) [] (viewOf u next calls)) e
 
-    view-owner : isOwners u bytes ≡ true → viewOf u s (delivery bytes now ∷ calls) ≡ ahead (verdict (deliver s bytes now) ∷ []) [] (viewOf u next calls)
-    view-owner e = view-first ∙ ap (λ b. ahead (cond b (verdict (deliver s bytes now) ∷ []) []) [] (viewOf u next calls)) e
-
-    view-guest : isOwners u bytes ≡ false → viewOf u s (delivery bytes now ∷ calls) ≡ viewOf u next calls
-    view-guest e = view-first ∙ ap (λ b. ahead (cond b (verdict (deliver s bytes now) ∷ []) []) [] (viewOf u next calls)) e
-
-    owners-first : ownersIn s (delivery bytes now ∷ calls)
-        ≡ alone (cond (isOwners u bytes) (delivers bytes now ∷ []) [] ++ ownerCalls u (exchanges next calls))
-    unfolding exchanges flatMap
-    owners-first = refl
-
-    owners-owner : isOwners u bytes ≡ true → ownersIn s (delivery bytes now ∷ calls) ≡ delivery bytes now ∷ ownersIn next calls
-    owners-owner e = owners-first ∙ ap (λ b. alone (cond b (delivers bytes now ∷ []) [] ++ ownerCalls u (exchanges next calls))) e
-
-    owners-guest : isOwners u bytes ≡ false → ownersIn s (delivery bytes now ∷ calls) ≡ ownersIn next calls
-    owners-guest e = owners-first ∙ ap (λ b. alone (cond b (delivers bytes now ∷ []) [] ++ ownerCalls u (exchanges next calls))) e
+      owners-delivery : ownersIn s (delivery bytes now ∷ calls) ≡ alone (cond b (delivers bytes now ∷ []) [] ++ ownerCalls u (exchanges next calls))
+      unfolding exchanges flatMap
+      owners-delivery = ap (λ x. alone (cond x (delivers bytes now ∷ []) [] ++ ownerCalls u (exchanges next calls))) e
 
   view-turn : (s : State) (now : LocalTime) (output : List ℕ) (calls : List Call)
       → viewOf u s (turn now output ∷ calls)
@@ -103,14 +91,14 @@ module _ (u : Settings) (me : ℕ) (ok : Made u me) where
       case (isOwners u bytes)
       (λ e.
       let known = seen-alone calls now next (call t c .state) (owner-pair u me ok before s t h bytes now late here e) rest (f .1) accepted in
-      view-owner u s bytes now calls e
+      view-delivery u s bytes now calls e
       ∙ (ap (λ (x : Answer Worked). ahead (x ∷ []) [] (viewOf u next calls)) (owner-answered u me ok before s t h bytes now late here e)
       ∙ (ap (ahead (verdict (deliver t bytes now) ∷ []) []) known
-      ∙ (sym (view-owner u t bytes now (ownersIn u next calls) e)
-      ∙ ap (viewOf u t) (sym (owners-owner u s bytes now calls e))))))
+      ∙ (sym (view-delivery u t bytes now (ownersIn u next calls) e)
+      ∙ ap (viewOf u t) (sym (owners-delivery u s bytes now calls e))))))
       (λ e.
       let known = seen-alone calls now next t (guest-pair u me ok before s t h bytes now late here e) rest (f .1) accepted in
-      view-guest u s bytes now calls e ∙ (known ∙ ap (viewOf u t) (sym (owners-guest u s bytes now calls e))))
+      view-delivery u s bytes now calls e ∙ (known ∙ ap (viewOf u t) (sym (owners-delivery u s bytes now calls e))))
   seen-alone (turn now output ∷ calls) before s t h lent forward accepted =
       let next = call s (turn now output) .state in
       let f = both (leb (before .0) (now .0)) (neverBack now (exchanges next calls)) forward in

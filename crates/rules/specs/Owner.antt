@@ -32,7 +32,7 @@ ownerSent u (turned now answer) = toGroup (u .owner) (sentIn (turned now answer)
 pub record View : Type 0 where
   -- the 256 variables, of which variable 0 is the failed mark, and the writes performed
   pub store : Store
-  -- document 02's shelf of the owner: its pending requests with their arrivals
+  -- its pending requests with their arrivals
   pub pending : List Pending
   -- the answer to each of its deliveries, in order: that it worked, or the number of its refusal
   pub answers : List (Answer Worked)
