@@ -1,20 +1,22 @@
--- What is supposed can be met: the theorem on the two runs of crates/rules. Each of the two pairs there that the owner can tell apart fails one
--- supposition, and meets the rest.
+-- What is supposed can be met: the theorem on the two runs of crates/rules. And all of it is needed: of the runs there that the owner can tell
+-- from `served`, each fails with it one supposition, and meets the rest.
+use Prim.Native.Nat.{ℕ}
 use mathlib.Core.Path.{_≡_, refl}
-use mathlib.Core.Bool.{Bool, true, false, _&&_}
-use mathlib.Core.List.{List, flatMap}
+use mathlib.Core.Bool.{Bool, true, false}
+use mathlib.Core.List.{List, [], _∷_, map, flatMap}
 use Rattle.question.specs.Question.{ask, unitQuestions}
 use Rattle.layout.specs.Number.{number, digits}
 use Rattle.layout.specs.Layout.{fieldsOf, bytesOf}
-use Rattle.record.specs.Record.{fieldQuestions, readFields, writeFields}
+use Rattle.record.specs.Record.{requestFields, fieldQuestions, readFields, writeFields}
 use Rattle.rules.specs.Batch.{verdictOf, handle}
 use Rattle.rules.specs.Lists.{every}
 use Rattle.rules.specs.Replica.{newState, make, admit, deliver, handleBatch, visit, visitGroup, visits, put, putAll, stepped, step}
 use Rattle.rules.specs.Run.{Call, messagesIn, call, run, Exchange, exchanges, Ran}
 use Rattle.rules.specs.Owner.{ownerView}
-use Rattle.rules.specs.TwoRuns.{three, quiet, loud, onTime, overtaken, served, unserved}
+use Rattle.rules.specs.Sample.{asked}
+use Rattle.rules.specs.TwoRuns.{three, quiet, loud, served, overtaken, unserved, changed, delayed, hurried, unstepped, exchanged}
 use Rattle.laws.proofs.Delivered.{computed-lent}
-use Rattle.isolation.specs.Isolation.{neverBack, stepAccepted, ownerCalls, Supposed}
+use Rattle.isolation.specs.Isolation.{neverBack, stepAccepted, OwnerCall, delivers, steps, ownerCalls, Supposed}
 use Rattle.isolation.proofs.Isolation.{isolation}
 
 -- what passes in a run
@@ -38,18 +40,43 @@ pair-supposed = record { left = record { forward = refl; accepted = refl }; righ
 pub pair-alike : ownerView three 1 quiet ≡ ownerView three 1 loud
 pair-alike = isolation three 1 quiet loud quiet-ran loud-ran pair-supposed
 
--- ── why local times may not go back, and steps must be accepted ──
+-- ── why each is needed ──
 
--- which suppositions two runs meet: that their local times never go back, that their steps are accepted, and the same calls of the owner
-pub record Met (a b : List Call) (forward accepted : Bool) : Type 0 where
-  pub times : neverBack (record { 0 = 0 }) (past a) && neverBack (record { 0 = 0 }) (past b) ≡ forward
-  pub steps : every stepAccepted (past a) && every stepAccepted (past b) ≡ accepted
-  pub calls : ownerCalls three (past a) ≡ ownerCalls three (past b)
+-- what the suppositions ask of a run: that its local times never go back, that its steps are accepted, and the calls of the owner
+pub record Asked : Type 0 where
+  pub forward : Bool
+  pub accepted : Bool
+  pub owners : List OwnerCall
 
-pub only-times-fail : Met onTime overtaken false true
-unfolding ask unitQuestions number digits fieldsOf bytesOf fieldQuestions readFields admit deliver call exchanges flatMap
-only-times-fail = record { times = refl; steps = refl; calls = refl }
+abbrev pub askedOf : List Call → Asked
+askedOf calls = record {
+  forward = neverBack (record { 0 = 0 }) (past calls);
+  accepted = every stepAccepted (past calls);
+  owners = ownerCalls three (past calls);
+}
 
-pub only-steps-fail : Met served unserved true false
+abbrev readAt : ℕ → ℕ → ℕ → OwnerCall
+readAt at t variable = delivers (bytesOf (requestFields (asked 2 1 t variable))) (record { 0 = at })
+
+abbrev stepsAt : ℕ → OwnerCall
+stepsAt at = steps (record { 0 = at })
+
+-- of `served`, and where nothing of the owner's differs from it
+abbrev common : List OwnerCall
+common = readAt 100 20 4 ∷ stepsAt 110 ∷ readAt 110 10 4 ∷ []
+
+abbrev steady : List OwnerCall → Asked
+steady owners = record { forward = true; accepted = true; owners = owners }
+
+pub each-needed : map askedOf (served ∷ overtaken ∷ unserved ∷ changed ∷ delayed ∷ hurried ∷ unstepped ∷ exchanged ∷ [])
+    ≡ (steady common
+    ∷ record { forward = false; accepted = true; owners = common }
+    ∷ record { forward = true; accepted = false; owners = common }
+    ∷ steady (readAt 100 20 5 ∷ stepsAt 110 ∷ readAt 110 10 4 ∷ [])
+    ∷ steady (readAt 100 20 4 ∷ stepsAt 110 ∷ readAt 111 10 4 ∷ [])
+    ∷ steady (readAt 100 20 4 ∷ stepsAt 105 ∷ readAt 110 10 4 ∷ [])
+    ∷ steady (readAt 100 20 4 ∷ readAt 110 10 4 ∷ [])
+    ∷ steady (readAt 100 20 4 ∷ readAt 110 10 4 ∷ stepsAt 110 ∷ [])
+    ∷ [])
 unfolding ask unitQuestions number digits fieldsOf bytesOf fieldQuestions readFields writeFields verdictOf handle admit deliver handleBatch visit visitGroup visits put putAll stepped step messagesIn call exchanges flatMap
-only-steps-fail = record { times = refl; steps = refl; calls = refl }
+each-needed = refl

@@ -1,6 +1,6 @@
 -- Document 02, A3, as figures. Two runs that are one to the owner: k = 1, N = 3, owner 2, δ = 5, replica 1, so that a guest is visited before
 -- the owner and one after it. In the quiet run a guest reads once; in the loud one they write, dissent, send four times what their places hold,
--- and deliver what is no request. Then two pairs that the owner can tell apart: a local time goes back in one, and in one a step is refused.
+-- and deliver what is no request. Then a run and seven that differ from it in one thing each, which the owner can tell from it.
 use Prim.Native.Nat.{ℕ}
 use mathlib.Core.List.{List, [], _∷_, _++_}
 use lib.ListN.{replicate}
@@ -76,20 +76,45 @@ loud =
     ∷ garbageAt 150 0
     ∷ [])))
 
--- the owner reads at 150
-abbrev pub onTime : List Call
-onTime = deliverAt 150 (asked 2 1 30 4) ∷ []
+-- ── a run, and others that differ from it in one thing: why A3 supposes what it does ──
 
--- a guest was accepted at 200 before
-abbrev pub overtaken : List Call
-overtaken = deliverAt 200 (asked 1 1 30 4) ∷ onTime
+-- the owner reads at one timestamp, and after a step at an earlier one
+abbrev first : Call
+first = deliverAt 100 (asked 2 1 20 4)
+
+abbrev second : Call
+second = deliverAt 110 (asked 2 1 10 4)
 
 abbrev pub served : List Call
-served = deliverAt 100 (asked 2 1 10 4) ∷ stepAt 110 ∷ []
+served = first ∷ stepAt 110 ∷ second ∷ []
+
+-- a guest is accepted at 111, and then local time goes back
+abbrev pub overtaken : List Call
+overtaken = first ∷ stepAt 110 ∷ deliverAt 111 (asked 1 1 30 4) ∷ second ∷ []
 
 -- the step has no room
 abbrev pub unserved : List Call
-unserved = deliverAt 100 (asked 2 1 10 4) ∷ turn (record { 0 = 110 }) [] ∷ []
+unserved = first ∷ turn (record { 0 = 110 }) [] ∷ second ∷ []
+
+-- the owner reads another variable
+abbrev pub changed : List Call
+changed = deliverAt 100 (asked 2 1 20 5) ∷ stepAt 110 ∷ second ∷ []
+
+-- its second read comes later
+abbrev pub delayed : List Call
+delayed = first ∷ stepAt 110 ∷ deliverAt 111 (asked 2 1 10 4) ∷ []
+
+-- the step comes earlier
+abbrev pub hurried : List Call
+hurried = first ∷ stepAt 105 ∷ second ∷ []
+
+-- there is none
+abbrev pub unstepped : List Call
+unstepped = first ∷ second ∷ []
+
+-- it comes after the second read
+abbrev pub exchanged : List Call
+exchanged = first ∷ second ∷ stepAt 110 ∷ []
 
 -- ── what the owner has of each ──
 
@@ -126,14 +151,29 @@ untouched = record {
 abbrev without : List Pending → List (Answer Worked) → List (List Message) → Seen
 without pending answers sent = record { held = record { four = 0; mark = 0; writes = 0 }; pending = pending; answers = answers; sent = sent }
 
+-- where both reads are accepted
+abbrev bothAccepted : List Pending → List (List Message) → Seen
+bothAccepted pending sent = without pending (given worked ∷ given worked ∷ []) sent
+
+-- where neither is answered
+abbrev unanswered : List (List Message) → Seen
+unanswered sent = bothAccepted (pendingAt 100 (asked 2 1 20 4) ∷ pendingAt 110 (asked 2 1 10 4) ∷ []) sent
+
+-- the step's messages to the owner, where it answers a read of a variable
+abbrev answered : ℕ → List (List Message)
+answered variable = (replyWith 0 1 (asked 2 1 20 variable) ∷ []) ∷ []
+
 abbrev pub rows : List Row
 rows =
     record { calls = quiet; expected = untouched }
     ∷ record { calls = loud; expected = untouched }
-    ∷ record { calls = onTime; expected = without (pendingAt 150 (asked 2 1 30 4) ∷ []) (given worked ∷ []) [] }
+    ∷ record { calls = served; expected = bothAccepted (pendingAt 110 (asked 2 1 10 4) ∷ []) (answered 4) }
     -- the guest's local time shuts the owner out
-    ∷ record { calls = overtaken; expected = without [] (refused 13 ∷ []) [] }
-    ∷ record { calls = served; expected = without [] (given worked ∷ []) ((replyWith 0 1 (asked 2 1 10 4) ∷ []) ∷ []) }
-    -- the owner's read is still pending
-    ∷ record { calls = unserved; expected = without (pendingAt 100 (asked 2 1 10 4) ∷ []) (given worked ∷ []) ([] ∷ []) }
+    ∷ record { calls = overtaken; expected = without [] (given worked ∷ refused 13 ∷ []) (answered 4) }
+    ∷ record { calls = unserved; expected = unanswered ([] ∷ []) }
+    ∷ record { calls = changed; expected = bothAccepted (pendingAt 110 (asked 2 1 10 4) ∷ []) (answered 5) }
+    ∷ record { calls = delayed; expected = bothAccepted (pendingAt 111 (asked 2 1 10 4) ∷ []) (answered 4) }
+    ∷ record { calls = hurried; expected = unanswered ([] ∷ []) }
+    ∷ record { calls = unstepped; expected = unanswered [] }
+    ∷ record { calls = exchanged; expected = unanswered ([] ∷ []) }
     ∷ []
