@@ -112,7 +112,7 @@ hurried = first ∷ stepAt 105 ∷ second ∷ []
 abbrev pub unstepped : List Call
 unstepped = first ∷ second ∷ []
 
--- it comes after the second read
+-- it comes after the second read, which as the earlier timestamp goes first and is not stable yet
 abbrev pub exchanged : List Call
 exchanged = first ∷ second ∷ stepAt 110 ∷ []
 
