@@ -14,7 +14,7 @@ use Rattle.rules.specs.Replica.{newState, make, admit, deliver, handleBatch, vi
 use Rattle.rules.specs.Run.{Call, messagesIn, call, run, Exchange, exchanges, Ran}
 use Rattle.rules.specs.Owner.{ownerView}
 use Rattle.rules.specs.Sample.{asked}
-use Rattle.rules.specs.TwoRuns.{three, quiet, loud, served, overtaken, unserved, changed, delayed, hurried, unstepped, exchanged}
+use Rattle.rules.specs.TwoRuns.{three, quiet, loud, served, overtaken, unserved, changed, delayed, hurried, unstepped, swapped}
 use Rattle.laws.proofs.Delivered.{computed-lent}
 use Rattle.isolation.specs.Isolation.{neverBack, stepAccepted, OwnerCall, delivers, steps, ownerCalls, Supposed}
 use Rattle.isolation.proofs.Isolation.{isolation}
@@ -43,13 +43,13 @@ pair-alike = isolation three 1 quiet loud quiet-ran loud-ran pair-supposed
 -- ── why each is needed ──
 
 -- what the suppositions ask of a run: that its local times never go back, that its steps are accepted, and the calls of the owner
-pub record Asked : Type 0 where
+pub record Traits : Type 0 where
   pub forward : Bool
   pub accepted : Bool
   pub owners : List OwnerCall
 
-abbrev pub askedOf : List Call → Asked
-askedOf calls = record {
+abbrev pub traitsOf : List Call → Traits
+traitsOf calls = record {
   forward = neverBack (record { 0 = 0 }) (past calls);
   accepted = every stepAccepted (past calls);
   owners = ownerCalls three (past calls);
@@ -65,10 +65,10 @@ stepsAt at = steps (record { 0 = at })
 abbrev common : List OwnerCall
 common = readAt 100 20 4 ∷ stepsAt 110 ∷ readAt 110 10 4 ∷ []
 
-abbrev steady : List OwnerCall → Asked
+abbrev steady : List OwnerCall → Traits
 steady owners = record { forward = true; accepted = true; owners = owners }
 
-pub each-needed : map askedOf (served ∷ overtaken ∷ unserved ∷ changed ∷ delayed ∷ hurried ∷ unstepped ∷ exchanged ∷ [])
+pub each-needed : map traitsOf (served ∷ overtaken ∷ unserved ∷ changed ∷ delayed ∷ hurried ∷ unstepped ∷ swapped ∷ [])
     ≡ (steady common
     ∷ record { forward = false; accepted = true; owners = common }
     ∷ record { forward = true; accepted = false; owners = common }

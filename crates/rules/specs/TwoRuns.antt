@@ -113,8 +113,8 @@ abbrev pub unstepped : List Call
 unstepped = first ∷ second ∷ []
 
 -- it comes after the second read, which as the earlier timestamp goes first and is not stable yet
-abbrev pub exchanged : List Call
-exchanged = first ∷ second ∷ stepAt 110 ∷ []
+abbrev pub swapped : List Call
+swapped = first ∷ second ∷ stepAt 110 ∷ []
 
 -- ── what the owner has of each ──
 
@@ -175,5 +175,5 @@ rows =
     ∷ record { calls = delayed; expected = bothAccepted (pendingAt 111 (asked 2 1 10 4) ∷ []) (answered 4) }
     ∷ record { calls = hurried; expected = unanswered ([] ∷ []) }
     ∷ record { calls = unstepped; expected = unanswered [] }
-    ∷ record { calls = exchanged; expected = unanswered ([] ∷ []) }
+    ∷ record { calls = swapped; expected = unanswered ([] ∷ []) }
     ∷ []
