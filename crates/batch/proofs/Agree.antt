@@ -16,20 +16,26 @@ use Rattle.record.specs.Kind.{isRead, isWrite, sameWrite}
 use Rattle.rules.specs.Batch.{allReads, allSame, allSendersDiffer, unanimous, firstOf}
 use Rattle.rules.specs.Replica.{stamped}
 use Rattle.rules.specs.declared.Pending.{Pending}
-use Rattle.question.proofs.Tests.{case}
+use Rattle.question.proofs.Tests.{case, true-not-false}
 use Rattle.batch.specs.Head.{requestsAt}
 
 module _ (t : Timestamp) (p : Pending) (rest : List Pending) where
   abbrev mine : Bool
   mine = stamped t (p .request)
 
-  -- one more request, whether or not it is of the batch
-  pub reads-step : (all : Bool)
-      → (all && (not mine || isRead (p .request))) && allReads (requestsAt t rest) ≡ all && allReads (requestsAt t (p ∷ rest))
-  reads-step all =
-      case mine
-      (λ e. rw e (and-assoc all (isRead (p .request)) (allReads (requestsAt t rest))))
-      (λ e. rw (e, and-true all))
+  abbrev other : Bool
+  other = mine && not (isRead (p .request))
+
+  -- a request of the batch that is no read ends the look; any other is passed
+  pub reads-end : other ≡ true → allReads (requestsAt t (p ∷ rest)) ≡ false
+  reads-end e = case mine
+      (λ m. case (isRead (p .request)) (λ r. true-not-false other e (rw (m, r))) (λ r. rw (m, r)))
+      (λ m. true-not-false other e (rw m))
+
+  pub reads-pass : other ≡ false → allReads (requestsAt t (p ∷ rest)) ≡ allReads (requestsAt t rest)
+  reads-pass e = case mine
+      (λ m. case (isRead (p .request)) (λ r. rw (m, r)) (λ r. true-not-false other (rw (m, r)) e))
+      (λ m. rw m)
 
   pub size-step : (size : ℕ) → size + boolByte mine + length (requestsAt t rest) ≡ size + length (requestsAt t (p ∷ rest))
   size-step size = case mine (λ e. rw e (omega arith)) (λ e. rw e (omega arith))

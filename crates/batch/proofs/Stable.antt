@@ -154,12 +154,3 @@ module _ (delta : ℕ) (now : LocalTime) where
       case (isStable delta now (batchOf (p ∷ l)))
       (λ b. let z : At (headTimestamp (p ∷ l)) (f .first) ≡ Nothing = rw (f .is, f .lateness, b) at e in absurd (nothing-at (sym z)))
       (λ b. b)
-
-  -- a batch is stable where the first arrival of its head is late, and there is no stable batch where there is no head
-  pub head-late : (l : List Pending) {t : Timestamp} {first : LocalTime} → headIn l ≡ At t first → isStable delta now (batchOf l) ≡ late first
-  head-late l {t} {first} e = case (late first)
-      (λ b. late-yes l {t = t} {first = first} (rw (e, b)) .1 ∙ sym b)
-      (λ b. late-no l (rw (e, b)) ∙ sym b)
-
-  pub head-none : (l : List Pending) → headIn l ≡ Nothing → isStable delta now (batchOf l) ≡ false
-  head-none l e = late-no l (rw e)

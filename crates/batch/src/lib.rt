@@ -7,7 +7,6 @@ mod pending;
 mod unanimity;
 
 pub use pending::Head;
-pub use pending::has_stable;
 pub use pending::in_batch;
 pub use pending::stable_head;
 pub use pending::take_off;

@@ -1,18 +1,12 @@
 // The batch of a queue, its requests with the least timestamp: finding it, and taking it off.
 ghost use mathlib.Core.Path.{_≡_};
 ghost use mathlib.Core.Bool.{not};
-ghost use Prim.Native.Nat.{_+_, _≤_};
-ghost use lib.ListN.{take, drop};
-ghost use Rattle.limits.specs.Limits.{places, allPlaces};
 ghost use Rattle.rules.specs.Lists.{keep};
-ghost use Rattle.rules.specs.Replica.{stamped, batchOf, earlier, isStable};
-ghost use Rattle.queue.specs.Queue.{waiting, queuesIn};
+ghost use Rattle.rules.specs.Replica.{stamped, earlier};
+ghost use Rattle.queue.specs.Queue.{waiting};
 ghost use Rattle.batch.specs.Head.{meet, join, headIn, isLate, whereLate};
-use queue::Queue;
-use queue::Queues;
-use queue::Span;
 use queue::pending_count;
-use queue::span_of;
+use queue::pending_of;
 use record::LocalTime;
 use record::Timestamp;
 use rules::Pending;
@@ -57,14 +51,14 @@ fn meet(h: Head, p: Pending) -> Head
     join(h, t, arrival)
 }
 
-fn head_of(q: Queue) -> Head
-    ensures { λ h. ⌜ h ≡ headIn (waiting q) ⌝ }
+fn head_of(queue: &[[u64; 4]], count: usize) -> Head
+    ensures { λ h. ⌜ h ≡ headIn (waiting (now (queue .entry)) count) ⌝ }
 {
-    let n = pending_count(q);
+    let n = pending_count(queue, count);
     let mut h = Head::Nothing;
     let mut i: usize = 0;
     while i < n {
-        let p = q.pending[i];
+        let p = pending_of(queue[i]);
         h = meet(h, p);
         i += 1;
     }
@@ -81,38 +75,11 @@ fn is_late(first: LocalTime, delta: u64, at: LocalTime) -> bool
     delta < at.0 - first.0
 }
 
-// The head of the requests that stand at some places.
-fn head_at(queues: Queues, s: Span) -> Head
-    requires { ⌜ (s .count ≤ places) × (s .from + s .count ≤ allPlaces) ⌝ }
-    ensures { λ h. ⌜ h ≡ headIn (take (s .count) (drop (s .from) (queues .pending))) ⌝ }
-{
-    let mut h = Head::Nothing;
-    let mut i: usize = 0;
-    while i < s.count {
-        let p = queues.pending[s.from + i];
-        h = meet(h, p);
-        i += 1;
-    }
-    h
-}
-
-// A group has a stable batch. Its queue is looked through where it stands, since a copy takes longer
-// than the look.
-pub fn has_stable(queues: Queues, group: u8, delta: u64, at: LocalTime) -> bool
-    ensures { λ b. ⌜ b ≡ isStable delta at (batchOf (queuesIn queues group)) ⌝ }
-{
-    let counts = queues.counts;
-    match head_at(queues, span_of(counts, group)) {
-        Head::Nothing => false,
-        Head::At(_, first) => is_late(first, delta, at),
-    }
-}
-
 // The head where its batch is stable.
-pub fn stable_head(q: Queue, delta: u64, at: LocalTime) -> Head
-    ensures { λ h. ⌜ h ≡ whereLate delta at (headIn (waiting q)) ⌝ }
+pub fn stable_head(queue: &[[u64; 4]], count: usize, delta: u64, at: LocalTime) -> Head
+    ensures { λ h. ⌜ h ≡ whereLate delta at (headIn (waiting (now (queue .entry)) count)) ⌝ }
 {
-    match head_of(q) {
+    match head_of(queue, count) {
         Head::Nothing => Head::Nothing,
         Head::At(t, first) => {
             if is_late(first, delta, at) {
@@ -131,22 +98,21 @@ pub fn in_batch(t: Timestamp, p: Pending) -> bool
     request.timestamp.0 == t.0
 }
 
-// The queue without the batch: one pass, each request that stays moves up once.
-pub fn take_off(q: Queue, t: Timestamp) -> Queue
-    ensures { λ s. ⌜ waiting s ≡ keep (λ p. not (stamped t (p .request))) (waiting q) ⌝ }
+// Takes the batch off the queue: one pass, each request that stays moves up once. The result is how
+// many stay.
+pub fn take_off(queue: &mut [[u64; 4]], count: usize, t: Timestamp) -> usize
+    ensures { λ kept. ⌜ waiting (now (queue .exit)) kept ≡ keep (λ p. not (stamped t (p .request))) (waiting (now (queue .entry)) count) ⌝ }
 {
-    let n = pending_count(q);
-    let mut next = q;
+    let n = pending_count(queue, count);
     let mut kept: usize = 0;
     let mut i: usize = 0;
     while i < n {
-        let p = next.pending[i];
-        if !in_batch(t, p) {
-            next.pending[kept] = p;
+        let row = queue[i];
+        if !in_batch(t, pending_of(row)) {
+            queue[kept] = row;
             kept += 1;
         }
         i += 1;
     }
-    next.count = kept;
-    next
+    kept
 }

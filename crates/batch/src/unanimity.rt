@@ -4,34 +4,35 @@ ghost use Rattle.rules.specs.Batch.{allReads, firstOf, unanimous};
 ghost use Rattle.queue.specs.Queue.{waiting};
 ghost use Rattle.batch.specs.Head.{requestsAt};
 use crate::pending::in_batch;
-use queue::Queue;
 use queue::pending_count;
+use queue::pending_of;
 use record::Request;
 use record::Timestamp;
 
-pub fn all_reads(q: Queue, t: Timestamp) -> bool
-    ensures { λ b. ⌜ b ≡ allReads (requestsAt t (waiting q)) ⌝ }
+pub fn all_reads(queue: &[[u64; 4]], count: usize, t: Timestamp) -> bool
+    ensures { λ b. ⌜ b ≡ allReads (requestsAt t (waiting (now (queue .entry)) count)) ⌝ }
 {
-    let n = pending_count(q);
-    let mut all = true;
+    let n = pending_count(queue, count);
     let mut i: usize = 0;
     while i < n {
-        let p = q.pending[i];
+        let p = pending_of(queue[i]);
         let request = p.request;
-        all = all & (!in_batch(t, p) | request.is_read());
+        if in_batch(t, p) & !request.is_read() {
+            return false;
+        }
         i += 1;
     }
-    all
+    true
 }
 
 // The first request of the batch, or a blank one.
-pub fn first_of(q: Queue, t: Timestamp) -> Request
-    ensures { λ r. ⌜ r ≡ firstOf (requestsAt t (waiting q)) ⌝ }
+pub fn first_of(queue: &[[u64; 4]], count: usize, t: Timestamp) -> Request
+    ensures { λ r. ⌜ r ≡ firstOf (requestsAt t (waiting (now (queue .entry)) count)) ⌝ }
 {
-    let n = pending_count(q);
+    let n = pending_count(queue, count);
     let mut i: usize = 0;
     while i < n {
-        let p = q.pending[i];
+        let p = pending_of(queue[i]);
         if in_batch(t, p) {
             return p.request;
         }
@@ -41,24 +42,24 @@ pub fn first_of(q: Queue, t: Timestamp) -> Request
 }
 
 // Exactly k + 1 requests, all writes, all from different processes, equal in variable and value.
-pub fn is_unanimous(q: Queue, k: u8, t: Timestamp) -> bool
-    ensures { λ b. ⌜ b ≡ unanimous k (requestsAt t (waiting q)) ⌝ }
+pub fn is_unanimous(queue: &[[u64; 4]], count: usize, k: u8, t: Timestamp) -> bool
+    ensures { λ b. ⌜ b ≡ unanimous k (requestsAt t (waiting (now (queue .entry)) count)) ⌝ }
 {
-    is_unanimous_from(q, k, t, first_of(q, t))
+    is_unanimous_from(queue, count, k, t, first_of(queue, count, t))
 }
 
 // The same, where the first request of the batch is known.
-fn is_unanimous_from(q: Queue, k: u8, t: Timestamp, first: Request) -> bool
-    requires { ⌜ first ≡ firstOf (requestsAt t (waiting q)) ⌝ }
-    ensures { λ b. ⌜ b ≡ unanimous k (requestsAt t (waiting q)) ⌝ }
+fn is_unanimous_from(queue: &[[u64; 4]], count: usize, k: u8, t: Timestamp, first: Request) -> bool
+    requires { ⌜ first ≡ firstOf (requestsAt t (waiting (now queue) count)) ⌝ }
+    ensures { λ b. ⌜ b ≡ unanimous k (requestsAt t (waiting (now (queue .entry)) count)) ⌝ }
 {
-    let n = pending_count(q);
+    let n = pending_count(queue, count);
     let mut seen = [false; 256];
     let mut size: usize = 0;
     let mut same = true;
     let mut i: usize = 0;
     while i < n {
-        let p = q.pending[i];
+        let p = pending_of(queue[i]);
         let request = p.request;
         let mine = in_batch(t, p);
         let sender = request.process as usize;

@@ -9,7 +9,6 @@ ghost use Rattle.state.specs.State.{stateOf};
 ghost use Rattle.queue.specs.Queue.{countOf};
 use checks::check_time;
 use limits::PLACES;
-use limits::QUEUES;
 use question::Outcome;
 use queue::count_of;
 use record::LocalTime;
@@ -41,15 +40,15 @@ fn unless_refused(o: Outcome, request: Request) -> RequestRead
     }
 }
 
-// The request that a delivery brings, or the refusal.
-fn admit(
+// The request that a delivery brings, or the refusal, where so many requests of each group are pending.
+pub fn admit(
     u: Settings,
     last: LocalTime,
-    counts: [usize; QUEUES],
+    counts: &[usize],
     bytes: &[u8],
     at: LocalTime,
 ) -> RequestRead
-    ensures { λ a. ⌜ requestAnswer a ≡ bind (readRequest (u .k) (u .groups) (now (bytes .entry))) (λ q. ask (placeQuestions last (countOf counts (q .group)) at) (given q)) ⌝ }
+    ensures { λ a. ⌜ requestAnswer a ≡ bind (readRequest (u .k) (u .groups) (now (bytes .entry))) (λ q. ask (placeQuestions last (countOf (now (counts .entry)) (q .group)) at) (given q)) ⌝ }
 {
     match record::read_request(u.k, u.groups, bytes) {
         RequestRead::Accepted(request) => {
@@ -96,7 +95,7 @@ pub fn deliver(r: Replica, bytes: &[u8], at: LocalTime) -> Delivered
     ensures kept { λ d. ⌜ ((q : ℕ) → outcome (d .outcome) ≡ refused q → d .replica ≡ r) ⌝ }
 {
     let counts = r.counts;
-    match admit(r.settings, r.last, counts, bytes, at) {
+    match admit(r.settings, r.last, &counts, bytes, at) {
         RequestRead::Accepted(request) => Delivered {
             outcome: Outcome::Done,
             replica: add_pending(r, request, at),

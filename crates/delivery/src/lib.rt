@@ -2,4 +2,5 @@
 mod delivery;
 
 pub use delivery::Delivered;
+pub use delivery::admit;
 pub use delivery::deliver;

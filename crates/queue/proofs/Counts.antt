@@ -4,13 +4,13 @@ use mathlib.Core.Path.{_≡_, refl, sym, _∙_}
 use mathlib.Core.List.{List}
 use native.Mathlib.Omega.{arith}
 use lib.Dec.{ltb}
-use lib.ListN.{length, getD, take, drop, length-take, length-drop, List·getD-eq-default}
+use lib.ListN.{length, getD, set, take, drop, length-take, length-drop, List·getD-eq-default}
 use lib.Seq.{take-all, take-take}
 use borrow.Author.Tests.{ltb-true, ltb-false}
 use Rattle.rules.specs.declared.Pending.{Pending}
 use Rattle.question.proofs.Tests.{case}
 use Rattle.state.specs.State.{placesFrom, queueOf}
-use Rattle.queue.specs.Queue.{countOf}
+use Rattle.queue.specs.Queue.{countOf, setCount}
 
 -- ── the count of a group ──
 
@@ -21,6 +21,10 @@ count-at counts (suc i) h = let z : suc i - 1 ≡ i = omega arith in rw z
 pub count-none : (counts : List ℕ) (g : ℕ) → length counts < g → countOf counts g ≡ 0
 count-none counts zero h = absurd (omega arith)
 count-none counts (suc i) h = let out : length counts ≤ i = omega arith in List·getD-eq-default counts 0 out
+
+pub count-set : (counts : List ℕ) (g n : ℕ) → 1 ≤ g → setCount counts g n ≡ set counts (g - 1) n
+count-set counts zero n h = absurd (omega arith)
+count-set counts (suc i) n h = let z : suc i - 1 ≡ i = omega arith in rw z
 
 -- a group that has some is one of those that are counted
 pub count-some : (counts : List ℕ) (g : ℕ) → 0 < countOf counts g → (1 ≤ g) × (g ≤ length counts)

@@ -1,16 +1,15 @@
-// One group's pending requests (document 02's shelf of a group): the queue by value, and its way out of
-// a replica's places and back into them.
+// One group's pending requests (document 02's shelf of a group), lent as rows of four words: the row of a
+// request, and the way of a replica's places into rows and back.
 //
-// Read on in this order: `queue` (the struct, and its count), `places` (out and back). The contracts
-// cite specs/Queue.antt, and crates/state for the places.
+// Read on in this order: `row` (one request), `places` (those of a replica). The contracts cite
+// specs/Row.antt and specs/Queue.antt, and crates/state for the places.
 mod places;
-mod queue;
+mod row;
 
-pub use places::Queues;
-pub use places::Span;
 pub use places::count_of;
-pub use places::put_back;
-pub use places::queue_of;
-pub use places::span_of;
-pub use queue::Queue;
-pub use queue::pending_count;
+pub use places::places_of;
+pub use places::rows_of;
+pub use places::set_count;
+pub use row::pending_count;
+pub use row::pending_of;
+pub use row::row_of;

@@ -1,3 +1,5 @@
+-- a list in parts of one width
+pub mod Parts
 -- the queues of the struct
 pub mod Queues
 -- calls of make, and the replica beside a refused one

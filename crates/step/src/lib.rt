@@ -8,6 +8,8 @@ mod output;
 mod stepping;
 mod visit;
 
+pub use stepping::LentStep;
 pub use stepping::StepAnswer;
 pub use stepping::Stepped;
 pub use stepping::step;
+pub use stepping::step_lent;

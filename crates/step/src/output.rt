@@ -11,8 +11,8 @@ use batch::in_batch;
 use limits::MAX_K;
 use limits::RECORD;
 use question::Outcome;
-use queue::Queue;
 use queue::pending_count;
+use queue::pending_of;
 use record::HALT;
 use record::Message;
 use record::REPLY;
@@ -78,19 +78,20 @@ fn halt_to(group: u8, replica: u8, t: Timestamp, process: u8) -> Message
 pub(crate) fn send_replies(
     u: Settings,
     number: u8,
-    q: Queue,
+    queue: &[[u64; 4]],
+    left: usize,
     t: Timestamp,
     variables: &[u32],
     output: &mut [u8],
     count: usize,
 ) -> usize
-    ensures { λ c. ⌜ ((s : Store) → s .variables ≡ now (variables .entry) → written c (now (output .exit)) ≡ putAll (u .k) (u .groups) (written count (now (output .entry))) (map (replyTo s number) (requestsAt t (waiting q)))) ⌝ }
+    ensures { λ c. ⌜ ((s : Store) → s .variables ≡ now (variables .entry) → written c (now (output .exit)) ≡ putAll (u .k) (u .groups) (written count (now (output .entry))) (map (replyTo s number) (requestsAt t (waiting (now (queue .entry)) left)))) ⌝ }
 {
-    let n = pending_count(q);
+    let n = pending_count(queue, left);
     let mut next = count;
     let mut i: usize = 0;
     while i < n {
-        let p = q.pending[i];
+        let p = pending_of(queue[i]);
         if in_batch(t, p) {
             let request = p.request;
             next = put(

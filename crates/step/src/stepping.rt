@@ -4,14 +4,20 @@ ghost use Prim.Native.Nat.{ℕ};
 ghost use Rattle.question.specs.Question.{given, refused, worked, ask, mapAnswer, after, outcome};
 ghost use Rattle.rules.specs.Replica.{stepQuestions, step};
 ghost use Rattle.state.specs.State.{stateOf};
+ghost use Rattle.queue.specs.Queue.{queuesIn};
 ghost use Rattle.step.specs.Answer.{stepAnswer};
+ghost use Rattle.step.specs.Output.{stateIn};
 use crate::visit::visits;
 use checks::check_time;
+use limits::ALL_PLACES;
 use limits::OUTPUT;
+use limits::QUEUES;
 use limits::VARIABLES;
 use question::Outcome;
-use queue::Queues;
+use queue::places_of;
+use queue::rows_of;
 use record::LocalTime;
+use rules::Pending;
 use rules::Settings;
 use state::Replica;
 
@@ -33,19 +39,59 @@ fn check_step(last: LocalTime, at: LocalTime, room: usize) -> Outcome
     check_time(last, at).ask(OUTPUT <= room, 15)
 }
 
+// What a step gives of a replica that is lent in parts: the answer, and what of it goes by value.
+pub struct LentStep {
+    pub answer: StepAnswer,
+    pub writes: u64,
+    pub last: LocalTime,
+}
+
+// The step of a replica whose pending requests, counts and variables are lent.
+pub fn step_lent(
+    u: Settings,
+    number: u8,
+    last: LocalTime,
+    writes: u64,
+    at: LocalTime,
+    pending: &mut [[u64; 4]],
+    counts: &mut [usize],
+    variables: &mut [u32],
+    output: &mut [u8],
+) -> LentStep
+    ensures answer { λ s. ⌜ stepAnswer (s .answer) ≡ mapAnswer (λ d. d .count) (step (stateIn u number last (queuesIn (now (pending .entry)) (now (counts .entry))) writes (now (variables .entry))) at (now (output .entry))) ⌝ }
+    ensures state { λ s. ⌜ stateIn u number (s .last) (queuesIn (now (pending .exit)) (now (counts .exit))) (s .writes) (now (variables .exit)) ≡ after (stateIn u number last (queuesIn (now (pending .entry)) (now (counts .entry))) writes (now (variables .entry))) (mapAnswer (λ d. d .state) (step (stateIn u number last (queuesIn (now (pending .entry)) (now (counts .entry))) writes (now (variables .entry))) at (now (output .entry)))) ⌝ }
+    ensures output { λ s. ⌜ now (output .exit) ≡ after (now (output .entry)) (mapAnswer (λ d. d .output) (step (stateIn u number last (queuesIn (now (pending .entry)) (now (counts .entry))) writes (now (variables .entry))) at (now (output .entry)))) ⌝ }
+    ensures kept { λ s. ⌜ ((q : ℕ) → stepAnswer (s .answer) ≡ refused q → (now (pending .exit) ≡ now (pending .entry)) × (now (counts .exit) ≡ now (counts .entry))) ⌝ }
+{
+    match check_step(last, at, output.len()) {
+        Outcome::Done => {
+            let done = visits(u, number, at, writes, pending, counts, variables, output);
+            LentStep {
+                answer: StepAnswer::Sent(done.count),
+                writes: done.writes,
+                last: at,
+            }
+        }
+        Outcome::Refused(number) => LentStep {
+            answer: StepAnswer::Refused(number),
+            writes,
+            last,
+        },
+    }
+}
+
 // The replica after its visits.
 fn renewed(
     settings: Settings,
     number: u8,
     last: LocalTime,
     variables: [u32; VARIABLES],
-    queues: Queues,
+    pending: [Pending; ALL_PLACES],
+    counts: [usize; QUEUES],
     writes: u64,
 ) -> Replica
-    ensures { λ r. ⌜ r ≡ record { settings = settings; number = number; last = last; variables = variables; pending = queues .pending; counts = queues .counts; writes = writes } ⌝ }
+    ensures { λ r. ⌜ r ≡ record { settings = settings; number = number; last = last; variables = variables; pending = pending; counts = counts; writes = writes } ⌝ }
 {
-    let pending = queues.pending;
-    let counts = queues.counts;
     Replica {
         settings,
         number,
@@ -66,21 +112,30 @@ pub fn step(r: Replica, at: LocalTime, output: &mut [u8]) -> Stepped
     match check_step(r.last, at, output.len()) {
         Outcome::Done => {
             let settings = r.settings;
-            let pending = r.pending;
-            let counts = r.counts;
+            let places = r.pending;
+            let mut counts = r.counts;
             let mut variables = r.variables;
+            let mut rows = rows_of(places, counts);
             let done = visits(
                 settings,
                 r.number,
                 at,
-                pending,
-                counts,
                 r.writes,
+                &mut rows,
+                &mut counts,
                 &mut variables,
                 output,
             );
-            let queues = done.queues;
-            let replica = renewed(settings, r.number, at, variables, queues, done.writes);
+            let pending = places_of(rows, counts, places);
+            let replica = renewed(
+                settings,
+                r.number,
+                at,
+                variables,
+                pending,
+                counts,
+                done.writes,
+            );
             Stepped {
                 answer: StepAnswer::Sent(done.count),
                 replica,

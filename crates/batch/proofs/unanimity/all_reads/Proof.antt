@@ -1,24 +1,22 @@
--- What was seen so far, and that all reads are left, is that all are reads.
+-- Each request passed is of another batch or a read, so the batch is all reads if what is left of it is.
 use Prim.Native.Nat.{_+_, _≤_, _-_}
 use mathlib.Core.Path.{_≡_, refl, sym, _∙_}
-use mathlib.Core.Bool.{_&&_, and-true}
 use native.Mathlib.Omega.{arith}
-use lib.ListN.{getD, drop}
+use lib.ListN.{drop}
 use borrow.Author.Needs.{needs}
 use Rattle.rules.specs.Batch.{allReads}
-use Rattle.state.specs.State.{free}
 use Rattle.queue.specs.Queue.{waiting}
+use Rattle.queue.proofs.Left.{left-row, left-end}
 use Rattle.batch.specs.Head.{requestsAt}
-use Rattle.queue.proofs.Left.{left-next, left-none}
-use Rattle.batch.proofs.Agree.{reads-step}
+use Rattle.batch.proofs.Agree.{reads-end, reads-pass}
 use Rattle.batch.proofs.unanimity.all_reads.Statement.{statement}
 use Rattle.batch.proofs.unanimity.all_reads.Tie as tie
 
 abbrev Inv-loop : tie.InvT-loop
-Inv-loop t q n all₀ i₀ all i = (i ≤ n) × (all && allReads (requestsAt t (drop i (waiting q))) ≡ allReads (requestsAt t (waiting q)))
+Inv-loop queue count t n i₀ i = (i ≤ n) × (allReads (requestsAt t (drop i (waiting queue count))) ≡ allReads (requestsAt t (waiting queue count)))
 
 abbrev μ-loop : tie.MeasureT-loop
-μ-loop t q n all₀ i₀ all i = n - i
+μ-loop queue count t n i₀ i = n - i
 
 pending-count-requires : tie.Need-pending-count-requires Inv-loop μ-loop
 pending-count-requires c κs = search needs
@@ -26,17 +24,29 @@ pending-count-requires c κs = search needs
 loop-holds : tie.Need-loop-holds Inv-loop μ-loop
 loop-holds c = (omega arith, refl)
 
-mul-p : tie.Need-mul-p Inv-loop μ-loop
-mul-p c = search needs
+mul-pending-of : tie.Need-mul-pending-of Inv-loop μ-loop
+mul-pending-of c = search needs
 
-element-copy-out-p : tie.Need-element-copy-out-p Inv-loop μ-loop
-element-copy-out-p c = search needs
+shared-slice-copy-out-pending-of : tie.Need-shared-slice-copy-out-pending-of Inv-loop μ-loop
+shared-slice-copy-out-pending-of c = search needs
+
+pending-of-requires : tie.Need-pending-of-requires Inv-loop μ-loop
+pending-of-requires c κs = search needs
 
 in-batch-requires : tie.Need-in-batch-requires Inv-loop μ-loop
 in-batch-requires c κs = search needs
 
 is-read-requires : tie.Need-is-read-requires Inv-loop μ-loop
 is-read-requires c κs = search needs
+
+returns : tie.Need-returns Inv-loop μ-loop
+returns c =
+    let read = c .before .before .before .before in
+    let l = read .before .before .before in
+    let a = l .before .before .args in
+    let next = left-row (a .queue .now) (a .count) (l .loop .i) _ (read .pending-of .ensures) (omega (arith, l .before .pending-count .ensures .0)) in
+    let other = rw (c .before .before .in-batch .ensures, c .before .is-read .ensures) at (c .if1 .taken) in
+    sym (reads-end (a .t) _ (drop (l .loop .i + 1) (waiting (a .queue .now) (a .count))) other) ∙ (rw next at (l .loop .inv .1))
 
 add-i : tie.Need-add-i Inv-loop μ-loop
 add-i c = search needs
@@ -46,20 +56,18 @@ loop-less c = search needs
 
 loop-again : tie.Need-loop-again Inv-loop μ-loop
 loop-again c =
-    let l = c .before .before .before .before .before in
+    let read = c .before .before .before .before in
+    let l = read .before .before .before in
     let a = l .before .before .args in
-    let q = a .t1 in
-    let p = getD (q .pending) (l .loop .i) free in
-    let rest = drop (l .loop .i + 1) (waiting q) in
-    let next = left-next (q .count) (q .pending) (l .loop .i) free (omega (arith, l .before .pending-count .ensures .0)) in
-    let seen = reads-step (a .t) p rest (l .loop .all) ∙ (rw next at (l .loop .inv .1)) in
-    (omega arith, rw (c .is-read .ensures, c .before .in-batch .ensures) seen)
+    let next = left-row (a .queue .now) (a .count) (l .loop .i) _ (read .pending-of .ensures) (omega (arith, l .before .pending-count .ensures .0)) in
+    let other = rw (c .before .before .in-batch .ensures, c .before .is-read .ensures) at (c .if1 .left) in
+    (omega arith, sym (reads-pass (a .t) _ (drop (l .loop .i + 1) (waiting (a .queue .now) (a .count))) other) ∙ (rw next at (l .loop .inv .1)))
 
-returns : tie.Need-returns Inv-loop μ-loop
-returns c =
-    let q = c .before .before .before .args .t1 in
-    let none = left-none (q .count) (q .pending) (c .before .loop .i) (omega (arith, c .before .before .pending-count .ensures .0)) in
-    sym (and-true (c .before .loop .all)) ∙ (rw none at (c .before .loop .inv .1))
+returns-2 : tie.Need-returns-2 Inv-loop μ-loop
+returns-2 c =
+    let l = c .before in
+    let a = l .before .before .args in
+    rw (left-end (a .queue .now) (a .count) (l .loop .i) (omega (arith, l .before .pending-count .ensures .0))) at (l .loop .inv .1)
 
 pub all-reads-spec : {M : Type 1} → statement M
 all-reads-spec =
@@ -69,11 +77,13 @@ all-reads-spec =
     μ-loop
     pending-count-requires
     loop-holds
-    mul-p
-    element-copy-out-p
+    mul-pending-of
+    shared-slice-copy-out-pending-of
+    pending-of-requires
     in-batch-requires
     is-read-requires
+    returns
     add-i
     loop-less
     loop-again
-    returns)
+    returns-2)

@@ -10,18 +10,21 @@ use Rattle.layout.specs.declared.clock.Timestamp.{Timestamp}
 use Rattle.rules.specs.Batch.{firstOf}
 use Rattle.rules.specs.Replica.{stamped}
 use Rattle.rules.specs.declared.Pending.{Pending}
-use Rattle.state.specs.State.{free}
 use Rattle.queue.specs.Queue.{waiting}
+use Rattle.queue.proofs.Left.{left-row, left-end}
 use Rattle.batch.specs.Head.{requestsAt}
-use Rattle.queue.proofs.Left.{left-next, left-none}
 use Rattle.batch.proofs.unanimity.first_of.Statement.{statement}
 use Rattle.batch.proofs.unanimity.first_of.Tie as tie
 
 abbrev Inv-loop : tie.InvT-loop
-Inv-loop t q n i₀ i = (i ≤ n) × (requestsAt t (drop i (waiting q)) ≡ requestsAt t (waiting q))
+Inv-loop queue count t n i₀ i = (i ≤ n) × (requestsAt t (drop i (waiting queue count)) ≡ requestsAt t (waiting queue count))
 
 abbrev μ-loop : tie.MeasureT-loop
-μ-loop t q n i₀ i = n - i
+μ-loop queue count t n i₀ i = n - i
+
+-- a request of the batch comes before those behind it
+first-left : (t : Timestamp) (p : Pending) (rest : List Pending) → stamped t (p .request) ≡ true → p .request ≡ firstOf (requestsAt t (p ∷ rest))
+first-left t p rest mine = rw mine
 
 pending-count-requires : tie.Need-pending-count-requires Inv-loop μ-loop
 pending-count-requires c κs = search needs
@@ -29,27 +32,26 @@ pending-count-requires c κs = search needs
 loop-holds : tie.Need-loop-holds Inv-loop μ-loop
 loop-holds c = (omega arith, refl)
 
-mul-p : tie.Need-mul-p Inv-loop μ-loop
-mul-p c = search needs
+mul-pending-of : tie.Need-mul-pending-of Inv-loop μ-loop
+mul-pending-of c = search needs
 
-element-copy-out-p : tie.Need-element-copy-out-p Inv-loop μ-loop
-element-copy-out-p c = search needs
+shared-slice-copy-out-pending-of : tie.Need-shared-slice-copy-out-pending-of Inv-loop μ-loop
+shared-slice-copy-out-pending-of c = search needs
+
+pending-of-requires : tie.Need-pending-of-requires Inv-loop μ-loop
+pending-of-requires c κs = search needs
 
 in-batch-requires : tie.Need-in-batch-requires Inv-loop μ-loop
 in-batch-requires c κs = search needs
 
--- a request of the batch comes before those behind it
-first-left : (t : Timestamp) (p : Pending) (rest : List Pending) → stamped t (p .request) ≡ true → p .request ≡ firstOf (requestsAt t (p ∷ rest))
-first-left t p rest mine = rw mine
-
 returns : tie.Need-returns Inv-loop μ-loop
 returns c =
-    let l = c .before .before .before .before .before in
+    let read = c .before .before .before in
+    let l = read .before .before .before in
     let a = l .before .before .args in
-    let q = a .t1 in
-    let next = left-next (q .count) (q .pending) (l .loop .i) free (omega (arith, l .before .pending-count .ensures .0)) in
+    let next = left-row (a .queue .now) (a .count) (l .loop .i) _ (read .pending-of .ensures) (omega (arith, l .before .pending-count .ensures .0)) in
     let mine = sym (c .before .before .in-batch .ensures) ∙ c .before .if1 .taken in
-    first-left (a .t) _ (drop (l .loop .i + 1) (waiting q)) mine ∙ ap firstOf (ap (requestsAt (a .t)) (sym next) ∙ l .loop .inv .1)
+    first-left (a .t) _ (drop (l .loop .i + 1) (waiting (a .queue .now) (a .count))) mine ∙ ap firstOf (ap (requestsAt (a .t)) (sym next) ∙ l .loop .inv .1)
 
 add-i : tie.Need-add-i Inv-loop μ-loop
 add-i c = search needs
@@ -59,9 +61,10 @@ loop-less c = search needs
 
 loop-again : tie.Need-loop-again Inv-loop μ-loop
 loop-again c =
-    let l = c .before .before .before .before in
-    let q = l .before .before .args .t1 in
-    let next = left-next (q .count) (q .pending) (l .loop .i) free (omega (arith, l .before .pending-count .ensures .0)) in
+    let read = c .before .before in
+    let l = read .before .before .before in
+    let a = l .before .before .args in
+    let next = left-row (a .queue .now) (a .count) (l .loop .i) _ (read .pending-of .ensures) (omega (arith, l .before .pending-count .ensures .0)) in
     (omega arith, rw (next, ← c .before .in-batch .ensures, c .if1 .left) at (l .loop .inv .1))
 
 blank-requires : tie.Need-blank-requires Inv-loop μ-loop
@@ -70,8 +73,8 @@ blank-requires c κs = search needs
 returns-2 : tie.Need-returns-2 Inv-loop μ-loop
 returns-2 c =
     let l = c .before .before in
-    let q = l .before .before .args .t1 in
-    rw (← l .loop .inv .1, left-none (q .count) (q .pending) (l .loop .i) (omega (arith, l .before .pending-count .ensures .0))) (c .blank .ensures)
+    let a = l .before .before .args in
+    rw (← l .loop .inv .1, left-end (a .queue .now) (a .count) (l .loop .i) (omega (arith, l .before .pending-count .ensures .0))) (c .blank .ensures)
 
 pub first-of-spec : {M : Type 1} → statement M
 first-of-spec =
@@ -81,8 +84,9 @@ first-of-spec =
     μ-loop
     pending-count-requires
     loop-holds
-    mul-p
-    element-copy-out-p
+    mul-pending-of
+    shared-slice-copy-out-pending-of
+    pending-of-requires
     in-batch-requires
     returns
     add-i

@@ -4,27 +4,26 @@ use mathlib.Core.Path.{_≡_, refl, sym, _∙_}
 use mathlib.Core.Bool.{false, _&&_, and-true}
 use native.Mathlib.Nat.{add-zero}
 use native.Mathlib.Omega.{arith}
-use lib.ListN.{length, getD, drop, replicate, length-set}
+use lib.ListN.{length, drop, replicate, length-set}
 use borrow.Author.Needs.{needs}
-use Rattle.state.specs.State.{free}
 use Rattle.queue.specs.Queue.{waiting}
-use Rattle.batch.specs.Head.{requestsAt}
-use Rattle.queue.proofs.Left.{left-next, left-none}
+use Rattle.queue.proofs.Left.{left-row, left-end}
 use Rattle.question.proofs.Tests.{byte-one}
+use Rattle.batch.specs.Head.{requestsAt}
 use Rattle.batch.proofs.Agree.{agree, size-step, agree-step, agree-unanimous}
 use Rattle.batch.proofs.unanimity.is_unanimous_from.Statement.{statement}
 use Rattle.batch.proofs.unanimity.is_unanimous_from.Tie as tie
 
 abbrev Inv-loop : tie.InvT-loop
-Inv-loop k t first q n seen₀ size₀ same₀ i₀ seen size same i =
+Inv-loop queue count k t first n seen₀ size₀ same₀ i₀ seen size same i =
     (i ≤ n)
     × (length seen ≡ 256)
     × (size ≤ i)
-    × (size + length (requestsAt t (drop i (waiting q))) ≡ length (requestsAt t (waiting q)))
-    × (same && agree first seen (requestsAt t (drop i (waiting q))) ≡ agree first (replicate 256 false) (requestsAt t (waiting q)))
+    × (size + length (requestsAt t (drop i (waiting queue count))) ≡ length (requestsAt t (waiting queue count)))
+    × (same && agree first seen (requestsAt t (drop i (waiting queue count))) ≡ agree first (replicate 256 false) (requestsAt t (waiting queue count)))
 
 abbrev μ-loop : tie.MeasureT-loop
-μ-loop k t first q n seen₀ size₀ same₀ i₀ seen size same i = n - i
+μ-loop queue count k t first n seen₀ size₀ same₀ i₀ seen size same i = n - i
 
 pending-count-requires : tie.Need-pending-count-requires Inv-loop μ-loop
 pending-count-requires c κs = search needs
@@ -32,11 +31,14 @@ pending-count-requires c κs = search needs
 loop-holds : tie.Need-loop-holds Inv-loop μ-loop
 loop-holds c = (omega arith, refl, omega arith, omega arith, refl)
 
-mul-p : tie.Need-mul-p Inv-loop μ-loop
-mul-p c = search needs
+mul-pending-of : tie.Need-mul-pending-of Inv-loop μ-loop
+mul-pending-of c = search needs
 
-element-copy-out-p : tie.Need-element-copy-out-p Inv-loop μ-loop
-element-copy-out-p c = search needs
+shared-slice-copy-out-pending-of : tie.Need-shared-slice-copy-out-pending-of Inv-loop μ-loop
+shared-slice-copy-out-pending-of c = search needs
+
+pending-of-requires : tie.Need-pending-of-requires Inv-loop μ-loop
+pending-of-requires c κs = search needs
 
 in-batch-requires : tie.Need-in-batch-requires Inv-loop μ-loop
 in-batch-requires c κs = search needs
@@ -70,13 +72,13 @@ loop-less c = search needs
 
 loop-again : tie.Need-loop-again Inv-loop μ-loop
 loop-again c =
-    let l = c .before .before .before .before .before .before in
+    let read = c .before .before .before .before in
+    let l = read .before .before .before in
     let a = l .before .before .args in
-    let q = a .t1 in
     let inv = l .loop .inv in
-    let p = getD (q .pending) (l .loop .i) free in
-    let rest = drop (l .loop .i + 1) (waiting q) in
-    let next = left-next (q .count) (q .pending) (l .loop .i) free (omega (arith, l .before .pending-count .ensures .0)) in
+    let p = read .pending-of .result in
+    let rest = drop (l .loop .i + 1) (waiting (a .queue .now) (a .count)) in
+    let next = left-row (a .queue .now) (a .count) (l .loop .i) _ (read .pending-of .ensures) (omega (arith, l .before .pending-count .ensures .0)) in
     let mine = c .before .before .in-batch .ensures in
     let size = size-step (a .t) p rest (l .loop .size) ∙ (rw next at (inv .3)) in (
       omega arith,
@@ -94,11 +96,11 @@ returns : tie.Need-returns Inv-loop μ-loop
 returns c =
     let l = c .before in
     let a = l .before .before .args in
-    let q = a .t1 in
-    let none = left-none (q .count) (q .pending) (l .loop .i) (omega (arith, l .before .pending-count .ensures .0)) in
+    let batch = requestsAt (a .t) (waiting (a .queue .now) (a .count)) in
+    let none = left-end (a .queue .now) (a .count) (l .loop .i) (omega (arith, l .before .pending-count .ensures .0)) in
     let same = sym (and-true (l .loop .same)) ∙ (rw none at (l .loop .inv .4)) in
     let size = sym (add-zero (l .loop .size)) ∙ (rw none at (l .loop .inv .3)) in
-    agree-unanimous (a .k) (requestsAt (a .t) (waiting q)) (rw (l .before .before .pre) at same) (rw size refl)
+    agree-unanimous (a .k) batch (rw (l .before .before .pre) at same) (rw size refl)
 
 pub is-unanimous-from-spec : {M : Type 1} → statement M
 is-unanimous-from-spec =
@@ -108,8 +110,9 @@ is-unanimous-from-spec =
     μ-loop
     pending-count-requires
     loop-holds
-    mul-p
-    element-copy-out-p
+    mul-pending-of
+    shared-slice-copy-out-pending-of
+    pending-of-requires
     in-batch-requires
     cast-sender
     agrees-requires

@@ -5,14 +5,15 @@ use mathlib.Core.List.{List, [], _∷_, _++_}
 use native.Mathlib.Numerals.{add-one}
 use native.Mathlib.Omega.{arith}
 use lib.ListN.{length, getD, set, length-map}
-use lib.Seq.{take-suc-set}
+use lib.Seq.{getD-set-same, take-suc-set}
 use borrow.Author.Needs.{needs}
 use Rattle.layout.specs.declared.clock.LocalTime.{LocalTime}
 use Rattle.rules.specs.Replica.{State, replace}
 use Rattle.rules.specs.declared.Pending.{Pending}
 use Rattle.state.specs.State.{placesFrom, queueOf}
 use Rattle.state.specs.declared.state.Replica.{Replica}
-use Rattle.state.proofs.Queues.{places-set, places-other, queue-changed}
+use Rattle.state.proofs.Parts.{part-set, part-set-other}
+use Rattle.state.proofs.Queues.{queue-changed}
 use Rattle.queue.proofs.Counts.{count-at, places-long}
 use Rattle.delivery.proofs.delivery.add_pending.Statement.{statement}
 use Rattle.delivery.proofs.delivery.add_pending.Tie as tie
@@ -26,9 +27,9 @@ module _ (pending : List Pending) (counts : List ℕ) (i : ℕ) (p : Pending)
   added =
       let n = getD counts i 0 in
       let whole = places-long i pending long here in
-      queue-changed pending (set pending (16 * i + n) p) counts i (n + 1) (queueOf pending counts (suc i) ++ (p ∷ [])) (omega arith)
-      (places-other pending i n p room)
-      (rw (places-set pending i n p room, add-one n, take-suc-set (placesFrom i pending) n p (omega (arith, whole))))
+      queue-changed pending (set pending (16 * i + n) p) counts i (n + 1) (queueOf pending counts (suc i) ++ (p ∷ []))
+      (part-set-other 16 i pending n p room)
+      (rw (getD-set-same counts i (n + 1) 0 (omega arith), part-set 16 i pending n p room, add-one n, take-suc-set (placesFrom i pending) n p (omega (arith, whole))))
 
 -- the state with these queues, at this time
 abbrev left : Replica → LocalTime → (ℕ → List Pending) → State

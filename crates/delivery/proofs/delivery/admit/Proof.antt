@@ -32,11 +32,11 @@ returns c =
     let n = c .before .before in
     let q = n .before .before in
     let r = q .before .before in
-    let a = r .before .before .args in
+    let a = r .before .before .before .args in
     let group = q .request .given .0 .0 .group in
-    let counted : n .count-of .result ≡ countOf (a .counts) group = omega (arith, n .count-of .ensures) in
+    let counted : n .count-of .result ≡ countOf (a .counts .now) group = omega (arith, n .count-of .ensures) in
     rw (c .unless-refused .ensures, ← r .read-request .ensures, q .request .given .1)
-    (next-asked (placeQuestions (a .last) (countOf (a .counts) group) (a .at)) (given _) _ (rw counted at (c .before .check-place .ensures)))
+    (next-asked (placeQuestions (a .last) (countOf (a .counts .now) group) (a .at)) (given _) _ (rw counted at (c .before .check-place .ensures)))
 
 returns-2 : tie.Need-returns-2
 returns-2 c = rw (← c .before .before .before .read-request .ensures, c .before .number .given .1)

@@ -18,11 +18,14 @@ long c = sym (length-map (c .args .r .pending) _) ∙ c .good .0 .1 .1 .1 .1 .1 
 
 -- what is admitted is what the rules admit
 admitted : (c : tie.After-admit) →
-    let a = c .before .before .before .args in
+    let a = c .before .before .before .before .args in
     requestAnswer (c .admit .result) ≡ admit (stateOf (a .r)) (a .bytes .now) (a .at)
 admitted c =
-    let s = c .before .before .before in
+    let s = c .before .before .before .before in
     c .admit .ensures ∙ admit-counted (s .args .r) (s .args .bytes .now) (s .args .at) (long s)
+
+slice-aggregate-admit : tie.Need-slice-aggregate-admit
+slice-aggregate-admit c = search needs
 
 admit-requires : tie.Need-admit-requires
 admit-requires c κs = search needs
@@ -33,7 +36,7 @@ enum-known-request c = search needs
 add-pending-requires : tie.Need-add-pending-requires
 add-pending-requires c κs =
     let f = c .before .before .before in
-    let s = f .before .before .before in
+    let s = f .before .before .before .before in
     let r = s .args .r in
     let found = admit-admitted (stateOf r) (s .args .bytes .now) (s .args .at) (sym (admitted f) ∙ ap requestAnswer (c .before .request .given .1)) in
     let group = read-group (r .settings .k) (r .settings .groups) (s .args .bytes .now) (found .reads) in
@@ -56,6 +59,7 @@ pub deliver-spec : {M : Type 1} → statement M
 deliver-spec =
     tie.close
     (tie.spec
+    slice-aggregate-admit
     admit-requires
     enum-known-request
     add-pending-requires

@@ -5,27 +5,26 @@ use mathlib.Core.Logic.{⊎-elim}
 use mathlib.Core.Bool.{true, false}
 use mathlib.Core.List.{map}
 use native.Mathlib.Omega.{arith}
-use lib.ListN.{length, getD, drop}
+use lib.ListN.{length, drop}
 use borrow.Author.Needs.{needs}
 use Rattle.rules.specs.Batch.{Store, replyTo}
 use Rattle.rules.specs.Replica.{stamped, written, put, putAll}
-use Rattle.state.specs.State.{free}
 use Rattle.queue.specs.Queue.{waiting}
-use Rattle.queue.proofs.Left.{left-next, left-none}
+use Rattle.queue.proofs.Left.{left-row, left-end}
 use Rattle.batch.specs.Head.{requestsAt}
 use Rattle.step.proofs.output.send_replies.Statement.{statement}
 use Rattle.step.proofs.output.send_replies.Tie as tie
 
 abbrev Inv-loop : tie.InvT-loop
-Inv-loop u number t variables output₀ count q n next₀ i₀ output next i =
+Inv-loop u number queue left t variables output₀ count n next₀ i₀ output next i =
     (i ≤ n)
     × (length output ≡ length output₀)
     × ((s : Store) → s .variables ≡ variables
-    → putAll (u .k) (u .groups) (written next output) (map (replyTo s number) (requestsAt t (drop i (waiting q))))
-    ≡ putAll (u .k) (u .groups) (written count output₀) (map (replyTo s number) (requestsAt t (waiting q))))
+    → putAll (u .k) (u .groups) (written next output) (map (replyTo s number) (requestsAt t (drop i (waiting queue left))))
+    ≡ putAll (u .k) (u .groups) (written count output₀) (map (replyTo s number) (requestsAt t (waiting queue left))))
 
 abbrev μ-loop : tie.MeasureT-loop
-μ-loop u number t variables output₀ count q n next₀ i₀ output next i = n - i
+μ-loop u number queue left t variables output₀ count n next₀ i₀ output next i = n - i
 
 pending-count-requires : tie.Need-pending-count-requires Inv-loop μ-loop
 pending-count-requires c κs = search needs
@@ -33,11 +32,14 @@ pending-count-requires c κs = search needs
 loop-holds : tie.Need-loop-holds Inv-loop μ-loop
 loop-holds c = (omega arith, refl, λ s e. refl)
 
-mul-p : tie.Need-mul-p Inv-loop μ-loop
-mul-p c = search needs
+mul-pending-of : tie.Need-mul-pending-of Inv-loop μ-loop
+mul-pending-of c = search needs
 
-element-copy-out-p : tie.Need-element-copy-out-p Inv-loop μ-loop
-element-copy-out-p c = search needs
+shared-slice-copy-out-pending-of : tie.Need-shared-slice-copy-out-pending-of Inv-loop μ-loop
+shared-slice-copy-out-pending-of c = search needs
+
+pending-of-requires : tie.Need-pending-of-requires Inv-loop μ-loop
+pending-of-requires c κs = search needs
 
 in-batch-requires : tie.Need-in-batch-requires Inv-loop μ-loop
 in-batch-requires c κs = search needs
@@ -57,13 +59,12 @@ loop-less c = search needs
 loop-again : tie.Need-loop-again Inv-loop μ-loop
 unfolding putAll
 loop-again c =
-    let l = c .before .before .before .before in
+    let read = c .before .before in
+    let l = read .before .before .before in
     let a = l .before .before .before .before .args in
-    let q = a .t3 in
-    let i = l .loop .i in
     let inv = l .loop .inv in
-    let p = getD (q .pending) i free in
-    let next = left-next (q .count) (q .pending) i free (omega (arith, l .before .pending-count .ensures .0)) in
+    let p = read .pending-of .result in
+    let next = left-row (a .queue .now) (a .left) (l .loop .i) _ (read .pending-of .ensures) (omega (arith, l .before .pending-count .ensures .0)) in
     let mine = c .before .in-batch .ensures in
     ⊎-elim
     (λ w.
@@ -89,8 +90,8 @@ returns : tie.Need-returns Inv-loop μ-loop
 unfolding putAll
 returns c =
     let l = c .before in
-    let q = l .before .before .before .before .args .t3 in
-    let none = left-none (q .count) (q .pending) (l .loop .i) (omega (arith, l .before .pending-count .ensures .0)) in
+    let a = l .before .before .before .before .args in
+    let none = left-end (a .queue .now) (a .left) (l .loop .i) (omega (arith, l .before .pending-count .ensures .0)) in
     λ s e. rw none at (l .loop .inv .2 s e)
 
 pub send-replies-spec : {M : Type 1} → statement M
@@ -101,8 +102,9 @@ send-replies-spec =
     μ-loop
     pending-count-requires
     loop-holds
-    mul-p
-    element-copy-out-p
+    mul-pending-of
+    shared-slice-copy-out-pending-of
+    pending-of-requires
     in-batch-requires
     reply-to-requires
     put-requires
