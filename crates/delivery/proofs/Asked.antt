@@ -10,12 +10,11 @@ use Rattle.question.specs.Question.{Answer, given, refused, ask, bind}
 use Rattle.layout.specs.declared.clock.LocalTime.{LocalTime}
 use Rattle.record.specs.Record.{readRequest}
 use Rattle.record.specs.declared.request.Request.{Request}
-use Rattle.rules.specs.Replica.{placeQuestions, admit}
+use Rattle.rules.specs.Replica.{State, placeQuestions, admit}
 use Rattle.rules.specs.declared.Pending.{Pending}
 use Rattle.question.proofs.Tests.{case}
 use Rattle.laws.proofs.Accepted.{read-group}
-use Rattle.state.specs.State.{placesFrom, queueOf, stateOf}
-use Rattle.state.specs.declared.state.Replica.{Replica}
+use Rattle.state.specs.State.{placesFrom, queueOf}
 use Rattle.state.proofs.Queues.{queue-at}
 use Rattle.queue.specs.Queue.{countOf}
 use Rattle.queue.proofs.Counts.{count-at, places-long}
@@ -34,16 +33,17 @@ module _ (pending : List Pending) (counts : List ℕ) (g : ℕ) (long : length p
       (λ f. rw f (le-ltb (length (queueOf pending counts g)) 16 (omega (arith, queue-length, ltb-false (countOf counts g) 16 f))))
 
 -- a request that was read is of a group that has places
-pub admit-counted : (r : Replica) (bytes : List ℕ) (at : LocalTime) → length (r .pending) ≡ 64 →
-    bind (readRequest (r .settings .k) (r .settings .groups) bytes) (λ q. ask (placeQuestions (r .last) (countOf (r .counts) (q .group)) at) (given q))
-    ≡ admit (stateOf r) bytes at
+pub admit-counted : (s : State) (pending : List Pending) (counts : List ℕ) → s .pending ≡ queueOf pending counts → length pending ≡ 64
+    → (bytes : List ℕ) (at : LocalTime) →
+    bind (readRequest (s .settings .k) (s .settings .groups) bytes) (λ q. ask (placeQuestions (s .last) (countOf counts (q .group)) at) (given q))
+    ≡ admit s bytes at
 unfolding admit
-admit-counted r bytes at long = go (readRequest (r .settings .k) (r .settings .groups) bytes) refl
+admit-counted s pending counts same long bytes at = rw same (go (readRequest (s .settings .k) (s .settings .groups) bytes) refl)
   where
-    go : (a : Answer Request) → readRequest (r .settings .k) (r .settings .groups) bytes ≡ a →
-        bind a (λ q. ask (placeQuestions (r .last) (countOf (r .counts) (q .group)) at) (given q))
-        ≡ bind a (λ q. ask (placeQuestions (r .last) (length (queueOf (r .pending) (r .counts) (q .group))) at) (given q))
+    go : (a : Answer Request) → readRequest (s .settings .k) (s .settings .groups) bytes ≡ a →
+        bind a (λ q. ask (placeQuestions (s .last) (countOf counts (q .group)) at) (given q))
+        ≡ bind a (λ q. ask (placeQuestions (s .last) (length (queueOf pending counts (q .group))) at) (given q))
     go (given q) e =
-        let group = read-group (r .settings .k) (r .settings .groups) bytes e in
-        rw (place-counted (r .pending) (r .counts) (q .group) long (group .0) (group .1))
+        let group = read-group (s .settings .k) (s .settings .groups) bytes e in
+        rw (place-counted pending counts (q .group) long (group .0) (group .1))
     go (refused number) e = refl

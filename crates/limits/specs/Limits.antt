@@ -33,12 +33,29 @@ places = 16
 abbrev pub allPlaces : ℕ
 allPlaces = maxGroups * places
 
+-- the replicas of the largest unit, 2k + 1, and the places, queues and variables of all of them
+abbrev pub maxReplicas : ℕ
+maxReplicas = 7
+
+abbrev pub unitPlaces : ℕ
+unitPlaces = maxReplicas * allPlaces
+
+abbrev pub unitQueues : ℕ
+unitQueues = maxReplicas * maxGroups
+
+abbrev pub unitVariables : ℕ
+unitVariables = maxReplicas * variableCount
+
 -- the bytes of a record, and those of an entry of a journal
 abbrev pub recordSize : ℕ
 recordSize = 24
 
 abbrev pub entrySize : ℕ
 entrySize = 40
+
+-- the greatest place of a record that a journal counts to, the greatest 64-bit number
+abbrev pub maxPlace : ℕ
+maxPlace = 2 ^ 64 - 1
 
 -- the records that a step may send, and the bytes that it must be lent for them
 abbrev pub maxSent : ℕ

@@ -32,10 +32,20 @@ pub const PLACES: usize = 16;
 
 pub const ALL_PLACES: usize = QUEUES * PLACES;
 
+// The places, queues and variables of all replicas of the largest unit.
+pub const UNIT_PLACES: usize = MAX_REPLICAS * ALL_PLACES;
+
+pub const UNIT_QUEUES: usize = MAX_REPLICAS * QUEUES;
+
+pub const UNIT_VARIABLES: usize = MAX_REPLICAS * VARIABLES;
+
 // The bytes of a record, and those of an entry of a journal.
 pub const RECORD: usize = 24;
 
 pub const ENTRY: usize = 40;
+
+// The greatest place of a record that a journal counts to, the greatest 64-bit number.
+pub const MAX_PLACE: u64 = 18446744073709551615;
 
 // The records that a step may send, and the bytes that it must be lent for them.
 pub const MAX_SENT: usize = 67;

@@ -3,3 +3,8 @@ pub mod Plays
 pub mod Messages
 pub mod Room
 pub mod Numbers
+pub mod Cuts
+pub mod Fits
+pub mod Instances
+pub mod Arrays
+pub mod Recorded

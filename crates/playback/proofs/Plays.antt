@@ -1,19 +1,20 @@
--- What a delivery answers as an entry of the journal, and the bytes of its request. Assumes nothing.
+-- The bytes of a delivery's request, and what a delivery and a step print. Assumes nothing.
 use Prim.Native.Nat.{ℕ, _-_, min}
 use mathlib.Core.Path.{_≡_, refl, sym, _∙_}
 use mathlib.Core.Bool.{Bool, true, false}
-use mathlib.Core.List.{List}
+use mathlib.Core.List.{List, [], append-nil}
 use lib.Dec.{leb}
 use lib.ListN.{length, take, drop, length-drop, drop-of-length-le}
 use lib.Seq.{take-all, take-nil}
 use native.Mathlib.Omega.{arith}
 use borrow.Author.Tests.{leb-true, leb-false}
 use Rattle.text.specs.Text.{joined}
-use Rattle.question.specs.Question.{Answer, given, refused, Worked, next, after, verdict, mapAnswer}
+use Rattle.question.specs.Question.{Answer, given, refused, worked, after, verdict, mapAnswer}
 use Rattle.rules.specs.declared.Settings.{Settings}
 use Rattle.rules.specs.Replica.{State, Stepped}
-use Rattle.playback.specs.Lines.{answerLines}
-use Rattle.playback.specs.Journal.{putBack}
+use Rattle.rules.specs.Run.{messagesIn}
+use Rattle.playback.specs.Lines.{refusalLine, answerLines}
+use Rattle.playback.specs.Journal.{linesOf}
 
 -- ── the request ──
 
@@ -47,40 +48,34 @@ module _ (bytes : List ℕ) where
   pub request-part : (from to : ℕ) → from ≡ start → to ≡ end → take (to - from) (drop from bytes) ≡ take 24 (drop 16 bytes)
   request-part from to e f = rw (e, f) (part (leb (length bytes) 16) refl)
 
--- ── the answer ──
+-- ── what is left, and what is printed ──
 
+-- a delivery sends nothing
 abbrev sentNothing : List ℕ → Answer State → Answer Stepped
 sentNothing output answer = mapAnswer (λ t. record { state = t; count = 0; output = output }) answer
-
-pub nothing-sent : {A : Type 0} (alone : Answer Worked) (answer : Answer A) →
-    alone ≡ verdict answer → next alone (given 0) ≡ mapAnswer {B = ℕ} (λ _. 0) answer
-nothing-sent alone (given a) e = rw e
-nothing-sent alone (refused number) e = rw e
-
-pub refused-next : (alone : Answer Worked) (q : ℕ) → next {B = ℕ} alone (given 0) ≡ refused q → alone ≡ refused q
-refused-next (given done) q e = absurd (let z : _≡_ {A = ℕ} 0 1 = cc in omega arith)
-refused-next (refused number) q e = cc
-
-pub count-delivered : (output : List ℕ) (answer : Answer State) →
-    mapAnswer {B = ℕ} (λ _. 0) answer ≡ mapAnswer (λ d. d .count) (sentNothing output answer)
-count-delivered output (given t) = refl
-count-delivered output (refused number) = refl
 
 pub state-delivered : (s : State) (output : List ℕ) (answer : Answer State) →
     after s answer ≡ after s (mapAnswer (λ d. d .state) (sentNothing output answer))
 state-delivered s output (given t) = refl
 state-delivered s output (refused number) = refl
 
-pub output-delivered : (output : List ℕ) (answer : Answer State) →
-    output ≡ after output (mapAnswer (λ d. d .output) (sentNothing output answer))
-output-delivered output (given t) = refl
-output-delivered output (refused number) = refl
+-- so it prints nothing, or its refusal
+pub done-text : (u : Settings) (place : ℕ) (output : List ℕ) (answer : Answer State) → given worked ≡ verdict answer
+    → linesOf u place (sentNothing output answer) ≡ []
+unfolding messagesIn
+done-text u place output (given t) e = refl
+done-text u place output (refused number) e = absurd (let z : _≡_ {A = ℕ} 0 1 = cc in omega arith)
 
--- ── the text ──
+pub refused-text : (u : Settings) (place : ℕ) (output : List ℕ) (answer : Answer State) {number : ℕ} → refused number ≡ verdict answer
+    → refusalLine place number ≡ linesOf u place (sentNothing output answer)
+refused-text u place output (given t) e = absurd (let z : _≡_ {A = ℕ} 0 1 = cc in omega arith)
+refused-text u place output (refused other) {number} e =
+    let same : number ≡ other = cc in
+    rw same (sym (append-nil (refusalLine place other)))
 
--- what the answer and the records of a call print is what the journal's definition prints of it
-pub played-text : (u : Settings) (place replica : ℕ) (replicas : List State) (output : List ℕ) (answer : Answer Stepped) →
+-- what the answer and the records of a step print is what the journal's definition prints of it
+pub stepped-text : (u : Settings) (place : ℕ) (output : List ℕ) (answer : Answer Stepped) →
     joined (answerLines (u .k) (u .groups) place (mapAnswer (λ d. d .count) answer) (after output (mapAnswer (λ d. d .output) answer)))
-    ≡ putBack u place replica replicas answer .text
-played-text u place replica replicas output (given d) = refl
-played-text u place replica replicas output (refused number) = refl
+    ≡ linesOf u place answer
+stepped-text u place output (given d) = refl
+stepped-text u place output (refused number) = refl

@@ -34,12 +34,15 @@ accepted-short (given m) messages =
     omega (arith, length-append (messageLine m) (joined (map messageLine messages)), message-short m)
 accepted-short (refused number) messages = omega arith
 
-messages-short : (k n count : ℕ) (sent : List ℕ) →
+pub messages-short : (k n count : ℕ) (sent : List ℕ) →
     length (joined (map messageLine (messagesIn k n count sent))) ≤ 132 * count
 unfolding messagesIn
 messages-short k n zero sent = omega arith
 messages-short k n (suc count) sent =
     omega (arith, accepted-short (readMessage k n (take 24 sent)) (messagesIn k n count (drop 24 sent)), messages-short k n count (drop 24 sent))
+
+pub refusal-short : (place number : ℕ) → length (refusalLine place number) ≤ 45
+refusal-short place number = omega (arith, line-short noWord (place ∷ number ∷ []))
 
 -- ── so they always find room ──
 
@@ -52,7 +55,7 @@ sent-fits k n place count sent text used few free =
 pub refusal-fits : (place number : ℕ) (text : List ℕ) (used : ℕ) → used + 45 ≤ length text →
     putText (page text used) (refusalLine place number) ≡ withText (page text used) (refusalLine place number)
 refusal-fits place number text used free =
-    put-room (page text used) (refusalLine place number) (omega (arith, line-short noWord (place ∷ number ∷ [])))
+    put-room (page text used) (refusalLine place number) (omega (arith, refusal-short place number))
 
 -- and where it is a record's answer
 pub refused-fits : (k n place number : ℕ) (sent text : List ℕ) (used : ℕ) → used + 45 ≤ length text →
@@ -60,7 +63,7 @@ pub refused-fits : (k n place number : ℕ) (sent text : List ℕ) (used : ℕ) 
     putText (page text used) lines ≡ withText (page text used) lines
 refused-fits k n place number sent text used free = rw (append-nil (refusalLine place number)) (refusal-fits place number text used free)
 
-cards-short : (replicas : List State) → length (joined (map cardLine replicas)) ≤ 68 * length replicas
+pub cards-short : (replicas : List State) → length (joined (map cardLine replicas)) ≤ 68 * length replicas
 cards-short [] = omega arith
 cards-short (s ∷ replicas) =
     let numbers = s .number ∷ valueOf 0 (s .store) ∷ s .store .writes ∷ [] in

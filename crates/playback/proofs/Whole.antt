@@ -16,7 +16,7 @@ use Rattle.rules.specs.Replica.{admit, deliver, handleBatch, visit, visitGroup,
 use Rattle.rules.specs.Run.{messagesIn}
 use Rattle.entry.specs.Entry.{readSetup, readEntry}
 use Rattle.playback.specs.Play.{playEntry}
-use Rattle.playback.specs.Journal.{playAll, journal}
+use Rattle.playback.specs.Journal.{playRecord, playAll, journal}
 
 -- ── the bytes ──
 
@@ -24,7 +24,7 @@ use Rattle.playback.specs.Journal.{playAll, journal}
 abbrev head : ℕ → ℕ → ℕ → List ℕ
 head kind replica number = digits 1 kind ++ (digits 1 replica ++ (digits 6 0 ++ digits 8 number))
 
-abbrev setup : List ℕ
+abbrev pub setup : List ℕ
 setup = head 1 0 5 ++ (0 ∷ 1 ∷ 1 ∷ replicate 21 0)
 
 -- a request of process 1 of the owner, on variable 3
@@ -33,15 +33,15 @@ delivery at kind t value =
     head 2 1 at
     ++ bytesOf (requestFields (record { kind = kind; group = 1; process = 1; variable = 3; timestamp = record { 0 = t }; value = value }))
 
-abbrev turn : ℕ → List ℕ
+abbrev pub turn : ℕ → List ℕ
 turn at = head 3 1 at ++ replicate 24 0
 
-abbrev input : List ℕ
+abbrev pub input : List ℕ
 input =
     setup ++ (delivery 100 write 50 9 ++ (delivery 102 read 51 0 ++ (turn 105 ++ (turn 106 ++ turn 108))))
 
 -- ── the text ──
 
 pub whole-run : journal input ≡ ascii "reply 1 1 1 51 3 9\ncard 1 0 1\n"
-unfolding ask unitQuestions number digits fieldsOf bytesOf fieldQuestions readFields writeFields verdictOf handle admit deliver handleBatch visit visitGroup visits put putAll stepped step messagesIn readSetup readEntry playEntry decimalIn decimal line playAll journal
+unfolding ask unitQuestions number digits fieldsOf bytesOf fieldQuestions readFields writeFields verdictOf handle admit deliver handleBatch visit visitGroup visits put putAll stepped step messagesIn readSetup readEntry playEntry playRecord decimalIn decimal line playAll journal
 whole-run = refl

@@ -1,3 +1,5 @@
 pub mod Play
 pub mod Lines
 pub mod Journal
+pub mod Blocks
+pub mod Arrays

@@ -1,19 +1,17 @@
 // A journal's lines, put into a lent text one behind the other, as the library `text` does.
 ghost use mathlib.Core.Path.{_≡_};
 ghost use mathlib.Core.List.{[], _∷_, _++_, map};
-ghost use Rattle.text.specs.Text.{joined};
+ghost use Rattle.text.specs.Text.{joined, line};
 ghost use Rattle.text.specs.Page.{page, putText};
 ghost use Rattle.record.specs.Record.{readMessage};
 ghost use Rattle.rules.specs.Run.{accepted, messagesIn};
-ghost use Rattle.state.specs.State.{stateOf};
 ghost use Rattle.step.specs.Answer.{stepAnswer};
-ghost use Rattle.playback.specs.Lines.{firstFour, messageLine, refusalLine, answerLines, cardLine};
+ghost use Rattle.playback.specs.Lines.{cardWord, firstFour, messageLine, refusalLine, answerLines};
 use limits::RECORD;
 use record::Message;
 use record::MessageRead;
 use record::REPLY;
-use replica::Replica;
-use replica::StepAnswer;
+use step::StepAnswer;
 
 // The numbers of a reply's line; a halt's line has the first four.
 fn numbers_of(m: Message) -> [u64; 6]
@@ -69,7 +67,7 @@ fn put_messages(k: u8, groups: u8, count: usize, sent: &[u8], text: &mut [u8], u
 }
 
 // What a record did: the messages that it wrote to `sent`, or its refusal.
-pub fn put_answer(
+pub(crate) fn put_answer(
     k: u8,
     groups: u8,
     place: u64,
@@ -86,17 +84,17 @@ pub fn put_answer(
     }
 }
 
-pub fn put_refusal(place: u64, number: u8, text: &mut [u8], used: usize) -> usize
+pub(crate) fn put_refusal(place: u64, number: u8, text: &mut [u8], used: usize) -> usize
     ensures { λ n. ⌜ page (now (text .exit)) n ≡ putText (page (now (text .entry)) used) (refusalLine place number) ⌝ }
 {
     let numbers = [place, number as u64];
     text::put_line(b"no", &numbers, text, used)
 }
 
-pub fn put_card(r: Replica, text: &mut [u8], used: usize) -> usize
-    ensures { λ n. ⌜ page (now (text .exit)) n ≡ putText (page (now (text .entry)) used) (cardLine (stateOf r)) ⌝ }
+// The number of a replica, its failed mark, and the writes performed.
+pub(crate) fn put_card(number: u64, failed: u64, writes: u64, text: &mut [u8], used: usize) -> usize
+    ensures { λ n. ⌜ page (now (text .exit)) n ≡ putText (page (now (text .entry)) used) (line cardWord (number ∷ failed ∷ writes ∷ [])) ⌝ }
 {
-    let failed = r.variables[0] as u64;
-    let numbers = [r.number as u64, failed, r.writes];
+    let numbers = [number, failed, writes];
     text::put_line(b"card", &numbers, text, used)
 }

@@ -1,77 +1,133 @@
-// What a record of the journal does to its replica.
-ghost use Prim.Native.Nat.{ℕ};
+// What a record of the journal does to its unit, and what is printed of it.
 ghost use mathlib.Core.Path.{_≡_};
-ghost use lib.ListN.{take, drop};
-ghost use Rattle.limits.specs.Limits.{recordSize};
-ghost use Rattle.question.specs.Question.{given, refused, mapAnswer, after, next, outcome};
-ghost use Rattle.rules.specs.Replica.{deliver, step};
-ghost use Rattle.state.specs.State.{stateOf};
-ghost use Rattle.step.specs.Answer.{stepAnswer};
-ghost use Rattle.entry.specs.Entry.{entryAnswer};
-ghost use Rattle.playback.specs.Play.{playOn};
+ghost use mathlib.Core.List.{List};
+ghost use Prim.Native.Nat.{ℕ, _+_, _≤_};
+ghost use lib.ListN.{length, take, drop, replicate};
+ghost use Rattle.limits.specs.Limits.{maxK, recordSize, outputSize, maxReplicas, unitPlaces, unitQueues, unitVariables};
+ghost use Rattle.text.specs.Page.{page, putText};
+ghost use Rattle.question.specs.Question.{mapAnswer, after};
+ghost use Rattle.entry.specs.Entry.{delivery, turn, readEntry};
+ghost use Rattle.playback.specs.Play.{playEntry};
+ghost use Rattle.playback.specs.Journal.{playing, linesOf, playRead};
+ghost use Rattle.playback.specs.Arrays.{arrays, replicaAt, replaced, unitOf};
+use crate::lines::put_answer;
+use crate::lines::put_refusal;
+use crate::unit::deliver_to;
+use crate::unit::step_of;
 use entry::EntryRead;
 use limits::ENTRY;
+use limits::OUTPUT;
 use limits::at_most;
 use question::Outcome;
 use record::LocalTime;
-use replica::Replica;
-use replica::StepAnswer;
+use rules::Settings;
 
-pub struct Played {
-    pub answer: StepAnswer,
-    pub replica: Replica,
-}
-
-// A delivery sends no message.
-fn nothing_sent(o: Outcome) -> StepAnswer
-    ensures { λ a. ⌜ stepAnswer a ≡ next (outcome o) (given 0) ⌝ }
+// A delivery of bytes 16 to 39; a shorter record has those that it has. It prints nothing unless it is
+// refused.
+fn play_delivery(
+    u: Settings,
+    place: u64,
+    number: u8,
+    at: LocalTime,
+    bytes: &[u8],
+    pending: &mut [[u64; 4]],
+    counts: &mut [usize],
+    lasts: &mut [u64],
+    text: &mut [u8],
+    used: usize,
+) -> usize
+    requires { ⌜ (1 ≤ number) × (number ≤ maxReplicas) ⌝ }
+    requires { ⌜ (length (now pending) ≡ unitPlaces) × (length (now counts) ≡ unitQueues) × (length (now lasts) ≡ maxReplicas) ⌝ }
+    ensures state { λ n. ⌜ ((variables writes : List ℕ) → replicaAt u (arrays (now (pending .exit)) (now (counts .exit)) variables writes (now (lasts .exit))) ≡ replaced number (after (replicaAt u (arrays (now (pending .entry)) (now (counts .entry)) variables writes (now (lasts .entry))) number) (mapAnswer (λ d. d .state) (playEntry (replicaAt u (arrays (now (pending .entry)) (now (counts .entry)) variables writes (now (lasts .entry))) number) (delivery number at (take recordSize (drop 16 (now (bytes .entry))))) (replicate outputSize 0)))) (replicaAt u (arrays (now (pending .entry)) (now (counts .entry)) variables writes (now (lasts .entry))))) ⌝ }
+    ensures text { λ n. ⌜ ((variables writes : List ℕ) → page (now (text .exit)) n ≡ putText (page (now (text .entry)) used) (linesOf u place (playEntry (replicaAt u (arrays (now (pending .entry)) (now (counts .entry)) variables writes (now (lasts .entry))) number) (delivery number at (take recordSize (drop 16 (now (bytes .entry))))) (replicate outputSize 0)))) ⌝ }
 {
-    match o {
-        Outcome::Done => StepAnswer::Sent(0),
-        Outcome::Refused(number) => StepAnswer::Refused(number),
+    let i = number as usize - 1;
+    let start = at_most(16, bytes.len());
+    let end = at_most(ENTRY, bytes.len());
+    match deliver_to(u, i, &bytes[start..end], at, pending, counts, lasts) {
+        Outcome::Done => used,
+        Outcome::Refused(refusal) => put_refusal(place, refusal, text, used),
     }
 }
 
-// A delivery of bytes 16 to 39; a shorter record has those that it has.
-fn play_delivery(r: Replica, at: LocalTime, bytes: &[u8]) -> Played
-    ensures answer { λ p. ⌜ stepAnswer (p .answer) ≡ mapAnswer (λ _. 0) (deliver (stateOf r) (take recordSize (drop 16 (now (bytes .entry)))) at) ⌝ }
-    ensures state { λ p. ⌜ stateOf (p .replica) ≡ after (stateOf r) (deliver (stateOf r) (take recordSize (drop 16 (now (bytes .entry)))) at) ⌝ }
-    ensures kept { λ p. ⌜ ((q : ℕ) → stepAnswer (p .answer) ≡ refused q → p .replica ≡ r) ⌝ }
+fn play_turn(
+    u: Settings,
+    place: u64,
+    number: u8,
+    at: LocalTime,
+    pending: &mut [[u64; 4]],
+    counts: &mut [usize],
+    variables: &mut [u32],
+    writes: &mut [u64],
+    lasts: &mut [u64],
+    text: &mut [u8],
+    used: usize,
+) -> usize
+    requires { ⌜ (1 ≤ number) × (number ≤ maxReplicas) × (length (now pending) ≡ unitPlaces) × (length (now counts) ≡ unitQueues) ⌝ }
+    requires { ⌜ (length (now variables) ≡ unitVariables) × (length (now writes) ≡ maxReplicas) × (length (now lasts) ≡ maxReplicas) ⌝ }
+    ensures state { λ n. ⌜ replicaAt u (arrays (now (pending .exit)) (now (counts .exit)) (now (variables .exit)) (now (writes .exit)) (now (lasts .exit))) ≡ replaced number (after (replicaAt u (arrays (now (pending .entry)) (now (counts .entry)) (now (variables .entry)) (now (writes .entry)) (now (lasts .entry))) number) (mapAnswer (λ d. d .state) (playEntry (replicaAt u (arrays (now (pending .entry)) (now (counts .entry)) (now (variables .entry)) (now (writes .entry)) (now (lasts .entry))) number) (turn number at) (replicate outputSize 0)))) (replicaAt u (arrays (now (pending .entry)) (now (counts .entry)) (now (variables .entry)) (now (writes .entry)) (now (lasts .entry)))) ⌝ }
+    ensures text { λ n. ⌜ page (now (text .exit)) n ≡ putText (page (now (text .entry)) used) (linesOf u place (playEntry (replicaAt u (arrays (now (pending .entry)) (now (counts .entry)) (now (variables .entry)) (now (writes .entry)) (now (lasts .entry))) number) (turn number at) (replicate outputSize 0))) ⌝ }
 {
-    let start = at_most(16, bytes.len());
-    let end = at_most(ENTRY, bytes.len());
-    let d = replica::deliver(r, &bytes[start..end], at);
-    let outcome = d.outcome;
-    let answer = nothing_sent(outcome);
-    let replica = d.replica;
-    Played { answer, replica }
+    let i = number as usize - 1;
+    let mut output = [0u8; OUTPUT];
+    let answer = step_of(
+        u,
+        i,
+        at,
+        pending,
+        counts,
+        variables,
+        writes,
+        lasts,
+        &mut output,
+    );
+    put_answer(u.k, u.groups, place, answer, &output, text, used)
 }
 
-fn play_turn(r: Replica, at: LocalTime, output: &mut [u8]) -> Played
-    ensures answer { λ p. ⌜ stepAnswer (p .answer) ≡ mapAnswer (λ d. d .count) (step (stateOf r) at (now (output .entry))) ⌝ }
-    ensures state { λ p. ⌜ stateOf (p .replica) ≡ after (stateOf r) (mapAnswer (λ d. d .state) (step (stateOf r) at (now (output .entry)))) ⌝ }
-    ensures output { λ p. ⌜ now (output .exit) ≡ after (now (output .entry)) (mapAnswer (λ d. d .output) (step (stateOf r) at (now (output .entry)))) ⌝ }
-    ensures kept { λ p. ⌜ ((q : ℕ) → stepAnswer (p .answer) ≡ refused q → p .replica ≡ r) ⌝ }
+// A record after the setup.
+pub(crate) fn play_record(
+    u: Settings,
+    place: u64,
+    bytes: &[u8],
+    pending: &mut [[u64; 4]],
+    counts: &mut [usize],
+    variables: &mut [u32],
+    writes: &mut [u64],
+    lasts: &mut [u64],
+    text: &mut [u8],
+    used: usize,
+) -> usize
+    requires { ⌜ (u .k ≤ maxK) × (length (now pending) ≡ unitPlaces) × (length (now counts) ≡ unitQueues) ⌝ }
+    requires { ⌜ (length (now variables) ≡ unitVariables) × (length (now writes) ≡ maxReplicas) × (length (now lasts) ≡ maxReplicas) ⌝ }
+    ensures unit { λ n. ⌜ playing u (place + 1) (unitOf u (replicaAt u (arrays (now (pending .exit)) (now (counts .exit)) (now (variables .exit)) (now (writes .exit)) (now (lasts .exit))))) ≡ (playRead u place (unitOf u (replicaAt u (arrays (now (pending .entry)) (now (counts .entry)) (now (variables .entry)) (now (writes .entry)) (now (lasts .entry))))) (readEntry (u .k) (now (bytes .entry)))) .unit ⌝ }
+    ensures text { λ n. ⌜ page (now (text .exit)) n ≡ putText (page (now (text .entry)) used) ((playRead u place (unitOf u (replicaAt u (arrays (now (pending .entry)) (now (counts .entry)) (now (variables .entry)) (now (writes .entry)) (now (lasts .entry))))) (readEntry (u .k) (now (bytes .entry)))) .text) ⌝ }
 {
-    let s = replica::step(r, at, output);
-    let answer = s.answer;
-    let replica = s.replica;
-    Played { answer, replica }
-}
-
-// A record that was read, played on the replica that it names.
-pub fn play_entry(r: Replica, e: EntryRead, bytes: &[u8], output: &mut [u8]) -> Played
-    ensures answer { λ p. ⌜ stepAnswer (p .answer) ≡ mapAnswer (λ d. d .count) (playOn (stateOf r) (entryAnswer (now (bytes .entry)) e) (now (output .entry))) ⌝ }
-    ensures state { λ p. ⌜ stateOf (p .replica) ≡ after (stateOf r) (mapAnswer (λ d. d .state) (playOn (stateOf r) (entryAnswer (now (bytes .entry)) e) (now (output .entry)))) ⌝ }
-    ensures output { λ p. ⌜ now (output .exit) ≡ after (now (output .entry)) (mapAnswer (λ d. d .output) (playOn (stateOf r) (entryAnswer (now (bytes .entry)) e) (now (output .entry)))) ⌝ }
-    ensures kept { λ p. ⌜ ((q : ℕ) → stepAnswer (p .answer) ≡ refused q → p .replica ≡ r) ⌝ }
-{
-    match e {
-        EntryRead::Delivery(_, at) => play_delivery(r, at, bytes),
-        EntryRead::Turn(_, at) => play_turn(r, at, output),
-        EntryRead::Refused(number) => Played {
-            answer: StepAnswer::Refused(number),
-            replica: r,
-        },
+    match entry::read_entry(u.k, bytes) {
+        EntryRead::Delivery(number, at) => play_delivery(
+            u,
+            place,
+            number,
+            at,
+            bytes,
+            pending,
+            counts,
+            lasts,
+            text,
+            used,
+        ),
+        EntryRead::Turn(number, at) => play_turn(
+            u,
+            place,
+            number,
+            at,
+            pending,
+            counts,
+            variables,
+            writes,
+            lasts,
+            text,
+            used,
+        ),
+        EntryRead::Refused(number) => put_refusal(place, number, text, used),
     }
 }

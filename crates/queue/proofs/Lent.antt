@@ -10,8 +10,7 @@ use lib.Seq.{getD-set-same, set-out}
 use borrow.Author.Tests.{ltb-true, ltb-false}
 use Rattle.rules.specs.Replica.{replace}
 use Rattle.question.proofs.Tests.{case}
-use Rattle.state.specs.State.{queueOf}
-use Rattle.state.proofs.Parts.{partAt}
+use Rattle.state.specs.State.{partAt, queueOf}
 use Rattle.state.proofs.Queues.{queue-changed}
 use Rattle.queue.specs.Queue.{placesIn, waiting, queuesIn}
 use Rattle.queue.proofs.Rows.{places-part}

@@ -11,10 +11,7 @@ use lib.Seq.{take-all, take-nil, take-take, drop-drop, take-at, drop-at, length-
 use borrow.Author.Tests.{leb-true, leb-false, ltb-true, ltb-false}
 use borrow.Rule.Slice.PartMut.{midOf, postOf, putMid, same-len-mid, take-put, drop-put, post-is}
 use Rattle.question.proofs.Tests.{case}
-
--- the i-th part, from 0
-abbrev pub partAt : {A : Type 0} → ℕ → ℕ → List A → List A
-partAt width i l = take width (drop (width * i) l)
+use Rattle.state.specs.State.{partAt}
 
 -- an earlier part ends where a later one begins, or before
 apart : (width i j : ℕ) → j < i → width * j + width ≤ width * i

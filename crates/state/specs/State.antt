@@ -8,9 +8,13 @@ use Rattle.rules.specs.Replica.{State}
 use Rattle.rules.specs.declared.Pending.{Pending}
 use Rattle.state.specs.declared.state.Replica.{Replica}
 
--- the sixteen places that follow the first i times sixteen
+-- of a list in parts of one width the i-th, from 0
+abbrev pub partAt : {A : Type 0} → ℕ → ℕ → List A → List A
+partAt width i l = take width (drop (width * i) l)
+
+-- a group's sixteen places, by its place among the groups
 abbrev pub placesFrom : ℕ → List Pending → List Pending
-placesFrom i pending = take places (drop (places * i) pending)
+placesFrom i pending = partAt places i pending
 
 -- a group's queue: of its places the first, as many as are counted. What stands behind them is free. All that stands there counts as of
 -- this group, whichever group it names. There is no group 0, and a group past the last count has no queue

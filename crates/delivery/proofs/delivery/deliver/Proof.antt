@@ -22,7 +22,7 @@ admitted : (c : tie.After-admit) →
     requestAnswer (c .admit .result) ≡ admit (stateOf (a .r)) (a .bytes .now) (a .at)
 admitted c =
     let s = c .before .before .before .before in
-    c .admit .ensures ∙ admit-counted (s .args .r) (s .args .bytes .now) (s .args .at) (long s)
+    c .admit .ensures ∙ admit-counted (stateOf (s .args .r)) (s .args .r .pending) (s .args .r .counts) refl (long s) (s .args .bytes .now) (s .args .at)
 
 slice-aggregate-admit : tie.Need-slice-aggregate-admit
 slice-aggregate-admit c = search needs

@@ -1,0 +1,216 @@
+-- Nothing is cut off: what a record prints takes at most 8,844 bytes, what a call prints fits the text that it was lent, and the end of
+-- a journal at most 521. Assumes nothing.
+use Prim.Native.Nat.{ℕ, _+_, _*_, _-_, _≤_}
+use mathlib.Core.Path.{_≡_, refl, sym, ap, _∙_}
+use mathlib.Core.Bool.{true, false}
+use mathlib.Core.List.{List, [], _∷_, _++_}
+use lib.Dec.{leb, ltb}
+use lib.ListN.{length, take, drop, getD, replicate, length-append, length-take, length-drop, length-map, length-replicate, length-set}
+use native.Mathlib.Omega.{arith}
+use borrow.Author.Tests.{leb-true}
+use Rattle.limits.specs.Limits.{recordSize, outputSize, maxSent, maxPlace}
+use Rattle.question.specs.Question.{Answer, given, refused, unitQuestions}
+use Rattle.question.proofs.Questions.{ask-through, ask-all-yes, all-yes-parts, bind-given, same-given}
+use Rattle.question.proofs.Tests.{case, both, true-not-false, unit-facts}
+use Rattle.layout.specs.Layout.{bytesOf}
+use Rattle.layout.proofs.Layouts.{length-bytes-of}
+use Rattle.layout.specs.declared.clock.LocalTime.{LocalTime}
+use Rattle.record.specs.Record.{messageFields, writeMessage}
+use Rattle.record.specs.declared.kind.Family.the-variants.{Messages}
+use Rattle.record.specs.declared.message.Message.{Message}
+use Rattle.record.proofs.Reading.{write-given, write-writable}
+use Rattle.rules.specs.Lists.{upTo}
+use Rattle.rules.specs.declared.Settings.{Settings}
+use Rattle.rules.specs.Replica.{State, Stepped, Written, written, behind, put, putAll, stepped, step, visits, atTime, deliver, newState}
+use Rattle.laws.proofs.Lists.{length-upTo}
+use Rattle.laws.proofs.Step.{step-accepted}
+use Rattle.entry.specs.Entry.{Entry, delivery, turn, settingsIn, setupQuestions, readSetup, readEntry}
+use Rattle.playback.specs.Play.{playEntry}
+use Rattle.playback.specs.Lines.{refusalLine}
+use Rattle.playback.specs.Journal.{Unit, Printed, fresh, playing, stopped, playSetup, replicaFor, putBack, playRead, playRecord, cardLines}
+use Rattle.playback.specs.Blocks.{linesSize, wholeEntries, goesOn, playRecords, playBlock, Call, playCalls, playPart, playEnd}
+use Rattle.playback.proofs.Room.{messages-short, refusal-short, cards-short}
+
+-- ── what a step counts ──
+
+-- records that stand within an output of so many bytes
+abbrev Within : ℕ → Written → Type 0
+Within size w = (recordSize * w .count ≤ size) × (length (w .output) ≡ size)
+
+module _ (k n size : ℕ) where
+  put-within : (w : Written) (m : Message) → Within size w → Within size (put k n w m)
+  unfolding put
+  put-within w m h = go (writeMessage k n m rest) refl
+    where
+      rest : List ℕ
+      rest = drop (recordSize * w .count) (w .output)
+
+      go : (a : Answer (List ℕ)) → writeMessage k n m rest ≡ a → Within size (behind w a)
+      go (given bytes) e =
+          let fits = write-writable Messages k n (messageFields m) rest e in
+          let new = bytesOf (messageFields m) ++ drop recordSize rest in
+          let is : bytes ≡ new = same-given (sym e ∙ write-given Messages k n fits) in
+          let room = fits .room in
+          let long = length-drop (recordSize * w .count) (w .output) in
+          let same : length (take (recordSize * w .count) (w .output) ++ new) ≡ size = omega (
+            arith,
+            length-append (take (recordSize * w .count) (w .output)) new,
+            length-append (bytesOf (messageFields m)) (drop recordSize rest),
+            length-bytes-of (messageFields m),
+            length-take (recordSize * w .count) (w .output),
+            length-drop recordSize rest,
+          ) in
+          (omega arith, rw is same)
+      go (refused number) e = h
+
+  all-within : (messages : List Message) (w : Written) → Within size w → Within size (putAll k n w messages)
+  unfolding putAll
+  all-within [] w h = h
+  all-within (m ∷ messages) w h = all-within messages (put k n w m) (put-within w m h)
+
+-- whatever the replica, the records that an accepted step counts stand in the output
+step-within : (s : State) (at : LocalTime) (output : List ℕ) {d : Stepped} → step s at output ≡ given d → recordSize * d .count ≤ length output
+unfolding stepped
+step-within s at output e =
+    rw (step-accepted s at output e)
+    (all-within (s .settings .k) (s .settings .groups) (length output) (visits (s .settings .groups) at (atTime at s) .sent) (written 0 output) (omega arith, refl) .0)
+
+-- ── what a record prints ──
+
+-- an entry that is played on a replica sends at most 67 records
+entry-few : (s : State) (e : Entry) (output : List ℕ) {d : Stepped} → length output ≡ outputSize → playEntry s e output ≡ given d → d .count ≤ maxSent
+unfolding playEntry
+entry-few s (delivery replica at request) output {d} size e =
+    let sent = bind-given (deliver s request at) _ e in
+    omega (arith, ap (λ (x : Stepped). x .count) (same-given (sent .2)))
+entry-few s (turn replica at) output size e = omega (arith, step-within s at output e)
+
+-- it gives at most so many, where it gives
+abbrev pub SendsFew : Answer Stepped → Type 0
+SendsFew answer = (d : Stepped) → answer ≡ given d → d .count ≤ maxSent
+
+-- a record after the setup puts back the answer of an entry, or its own refusal: what holds of every answer that sends so few holds of it
+pub read-puts-back : (P : Printed → Type 0) (u : Settings) (place : ℕ) (replicas : List State)
+    → ((replica : ℕ) (answer : Answer Stepped) → SendsFew answer → P (putBack u place replica replicas answer))
+    → (entry : Answer Entry) → P (playRead u place replicas entry)
+read-puts-back P u place replicas each (given e) =
+    each (replicaFor e) _
+    (λ d. entry-few (getD replicas (replicaFor e - 1) (newState u 0)) e (replicate outputSize 0) (length-replicate {A = ℕ} outputSize 0))
+read-puts-back P u place replicas each (refused number) =
+    each 0 (refused number) (λ d e. absurd (let z : _≡_ {A = ℕ} 0 1 = cc in omega arith))
+
+answer-short : (u : Settings) (place : ℕ) (replicas : List State) (replica : ℕ) (answer : Answer Stepped) → SendsFew answer
+    → length (putBack u place replica replicas answer .text) ≤ linesSize
+answer-short u place replicas replica (given d) few = omega (arith, few d refl, messages-short (u .k) (u .groups) (d .count) (d .output))
+answer-short u place replicas replica (refused number) few = omega (arith, length-append (refusalLine place number) [], refusal-short place number)
+
+setup-short : (settings : Answer Settings) → length (playSetup settings .text) ≤ linesSize
+setup-short (given u) = omega arith
+setup-short (refused number) = omega (arith, refusal-short 1 number)
+
+pub record-short : (unit : Unit) (bytes : List ℕ) → length (playRecord unit bytes .text) ≤ linesSize
+unfolding playRecord
+record-short fresh bytes = setup-short (readSetup bytes)
+record-short (playing u place replicas) bytes =
+    read-puts-back (λ p. length (p .text) ≤ linesSize) u place replicas (answer-short u place replicas) (readEntry (u .k) bytes)
+record-short stopped bytes = omega arith
+
+-- ── what a call prints ──
+
+-- a unit goes on only where there is room for one record more
+goes-room : (room : ℕ) (unit : Unit) → goesOn room unit ≡ true → linesSize ≤ room
+goes-room room fresh on = leb-true linesSize room on
+goes-room room (playing u place replicas) on = leb-true linesSize room (both (leb linesSize room) (ltb place maxPlace) on .0)
+goes-room room stopped on = true-not-false false on refl
+
+records-fit : (room : ℕ) (unit : Unit) (records : List (List ℕ)) → length (playRecords room unit records .text) ≤ room
+unfolding playRecords
+records-fit room unit [] = omega arith
+records-fit room unit (bytes ∷ records) =
+    let one = playRecord unit bytes in
+    let free = room - length (one .text) in
+    case (goesOn room unit)
+    (λ on. rw on (omega (
+      arith,
+      goes-room room unit on,
+      record-short unit bytes,
+      records-fit free (one .unit) records,
+      length-append (one .text) (playRecords free (one .unit) records .text),
+    )))
+    (λ off. rw off (omega arith))
+
+pub block-fits : (room : ℕ) (unit : Unit) (block : List ℕ) → length (playBlock room unit block .text) ≤ room
+block-fits room unit block = records-fit room unit (wholeEntries (length block) block)
+
+-- ── what the end prints ──
+
+abbrev pub replicasIn : Unit → List State
+replicasIn fresh = []
+replicasIn (playing u place replicas) = replicas
+replicasIn stopped = []
+
+cards-within : (unit : Unit) → length (replicasIn unit) ≤ 7 → length (cardLines unit) ≤ 476
+cards-within fresh few = omega arith
+cards-within (playing u place replicas) few = omega (arith, cards-short replicas)
+cards-within stopped few = omega arith
+
+-- the k of a setup is at most 3
+setup-few : (bytes : List ℕ) (settings : Answer Settings) → readSetup bytes ≡ settings → length (replicasIn (playSetup settings .unit)) ≤ 7
+unfolding readSetup
+setup-few bytes (given u) e =
+    let asked = ask-all-yes (setupQuestions bytes) (given (settingsIn bytes)) e in
+    let v = settingsIn bytes in
+    let unit = unit-facts (v .k) (v .groups) (all-yes-parts (unitQuestions (v .k) (v .groups)) _ (asked .1 .1 .1 .1) .0) in
+    let same : v ≡ u = same-given (ask-through (setupQuestions bytes) (given v) e) in
+    rw (← same) (omega (arith, unit .k-high, length-map (upTo (2 * v .k + 1)) (newState v), length-upTo (2 * v .k + 1)))
+setup-few bytes (refused number) e = omega arith
+
+-- no replica comes or goes
+answer-keeps : (u : Settings) (place : ℕ) (replicas : List State) (replica : ℕ) (answer : Answer Stepped)
+    → length (replicasIn (putBack u place replica replicas answer .unit)) ≡ length replicas
+answer-keeps u place replicas replica (given d) = length-set replicas (replica - 1) (d .state)
+answer-keeps u place replicas replica (refused number) = refl
+
+record-few : (unit : Unit) (bytes : List ℕ) → length (replicasIn unit) ≤ 7 → length (replicasIn (playRecord unit bytes .unit)) ≤ 7
+unfolding playRecord
+record-few fresh bytes few = setup-few bytes (readSetup bytes) refl
+record-few (playing u place replicas) bytes few =
+    read-puts-back (λ p. length (replicasIn (p .unit)) ≤ 7) u place replicas
+    (λ replica answer sent. omega (arith, answer-keeps u place replicas replica answer)) (readEntry (u .k) bytes)
+record-few stopped bytes few = few
+
+-- so there are at most seven after any calls
+records-few : (room : ℕ) (unit : Unit) (records : List (List ℕ)) → length (replicasIn unit) ≤ 7 → length (replicasIn (playRecords room unit records .unit)) ≤ 7
+unfolding playRecords
+records-few room unit [] few = few
+records-few room unit (bytes ∷ records) few =
+    let one = playRecord unit bytes in
+    case (goesOn room unit)
+    (λ on. rw on (records-few (room - length (one .text)) (one .unit) records (record-few unit bytes few)))
+    (λ off. rw off few)
+
+pub calls-few : (calls : List Call) (unit : Unit) (input : List ℕ) → length (replicasIn unit) ≤ 7 → length (replicasIn (playCalls calls unit input .unit)) ≤ 7
+unfolding playCalls
+calls-few [] unit input few = few
+calls-few (c ∷ calls) unit input few =
+    let block = take (c .size) input in
+    let done = playBlock (c .room) unit block in
+    calls-few calls (done .unit) (drop (done .taken) input) (records-few (c .room) unit (wholeEntries (length block) block) few)
+
+-- what is refused at the end
+part-short : (unit : Unit) → length (playPart unit .text) ≤ 45
+part-short fresh = refusal-short 1 18
+part-short (playing u place replicas) = omega (arith, length-append (refusalLine place 18) [], refusal-short place 18)
+part-short stopped = omega arith
+
+part-keeps : (unit : Unit) → length (replicasIn (playPart unit .unit)) ≤ length (replicasIn unit)
+part-keeps fresh = omega arith
+part-keeps (playing u place replicas) = omega arith
+part-keeps stopped = omega arith
+
+pub end-fits : (unit : Unit) (left : List ℕ) → length (replicasIn unit) ≤ 7 → length (playEnd unit left) ≤ 45 + 476
+unfolding playEnd
+end-fits unit [] few = omega (arith, cards-within unit few)
+end-fits unit (b ∷ rest) few =
+    let last = playPart unit in
+    omega (arith, length-append (last .text) (cardLines (last .unit)), part-short unit, cards-within (last .unit) (omega (arith, part-keeps unit)))

@@ -1,0 +1,51 @@
+-- The unit that the arrays lent to a call stand for: seven replicas side by side, of which the first 2k + 1 are the unit's.
+use Prim.Native.Nat.{ℕ, zero, suc, _+_, _*_}
+use mathlib.Core.Bool.{cond}
+use mathlib.Core.List.{List, map}
+use lib.Dec.{eqb, leb}
+use lib.ListN.{getD}
+use Rattle.limits.specs.Limits.{maxK, maxGroups, allPlaces, variableCount}
+use Rattle.rules.specs.Lists.{upTo}
+use Rattle.rules.specs.declared.Settings.{Settings}
+use Rattle.rules.specs.Replica.{State, newState}
+use Rattle.state.specs.State.{partAt}
+use Rattle.queue.specs.Queue.{queuesIn}
+use Rattle.step.specs.Output.{stateIn}
+use Rattle.playback.specs.Journal.{Unit, fresh, playing, stopped}
+use Rattle.playback.specs.declared.stage.Stage.{Stage}
+use Rattle.playback.specs.declared.stage.Stage.the-variants.{First, Playing, Stopped}
+
+-- of each replica 64 rows, four counts, 256 variables, the writes performed and the last accepted local time
+pub record Arrays : Type 0 where
+  pub pending : List (List ℕ)
+  pub counts : List ℕ
+  pub variables : List ℕ
+  pub writes : List ℕ
+  pub lasts : List ℕ
+
+abbrev pub arrays : List (List ℕ) → List ℕ → List ℕ → List ℕ → List ℕ → Arrays
+arrays pending counts variables writes lasts =
+    record { pending = pending; counts = counts; variables = variables; writes = writes; lasts = lasts }
+
+-- a replica by its number; there is none with the number 0
+unfoldable pub replicaAt : Settings → Arrays → ℕ → State
+replicaAt u a zero = newState u 0
+replicaAt u a (suc i) =
+    stateIn u (suc i) (record { 0 = getD (a .lasts) i 0 })
+    (queuesIn (partAt allPlaces i (a .pending)) (partAt maxGroups i (a .counts)))
+    (getD (a .writes) i 0)
+    (partAt variableCount i (a .variables))
+
+-- the replicas, one of them replaced
+abbrev pub replaced : ℕ → State → (ℕ → State) → ℕ → State
+replaced number s replicas n = cond (eqb n number) s (replicas n)
+
+-- replicas 1 to 2k + 1
+abbrev pub unitOf : Settings → (ℕ → State) → List State
+unitOf u replicas = map replicas (upTo (2 * u .k + 1))
+
+-- no unit has a k past 3: what says so counts as stopped
+abbrev pub unitIn : Stage → Arrays → Unit
+unitIn First a = fresh
+unitIn (Playing u place) a = cond (leb (u .k) maxK) (playing u place (unitOf u (replicaAt u a))) stopped
+unitIn Stopped a = stopped
