@@ -108,7 +108,7 @@ unfolding playRecord playAll
 stopped-silent [] = refl
 stopped-silent (bytes ∷ records) = stopped-silent records
 
-stopped-end : (left : List ℕ) → playEnd stopped left ≡ []
+pub stopped-end : (left : List ℕ) → playEnd stopped left ≡ []
 unfolding playEnd
 stopped-end [] = refl
 stopped-end (b ∷ rest) = refl

@@ -155,14 +155,17 @@ cards-within (playing u place replicas) few = omega (arith, cards-short replicas
 cards-within stopped few = omega arith
 
 -- the k of a setup is at most 3
-setup-few : (bytes : List ℕ) (settings : Answer Settings) → readSetup bytes ≡ settings → length (replicasIn (playSetup settings .unit)) ≤ 7
+pub setup-small : (bytes : List ℕ) {u : Settings} → readSetup bytes ≡ given u → u .k ≤ 3
 unfolding readSetup
-setup-few bytes (given u) e =
+setup-small bytes {u} e =
     let asked = ask-all-yes (setupQuestions bytes) (given (settingsIn bytes)) e in
     let v = settingsIn bytes in
     let unit = unit-facts (v .k) (v .groups) (all-yes-parts (unitQuestions (v .k) (v .groups)) _ (asked .1 .1 .1 .1) .0) in
     let same : v ≡ u = same-given (ask-through (setupQuestions bytes) (given v) e) in
-    rw (← same) (omega (arith, unit .k-high, length-map (upTo (2 * v .k + 1)) (newState v), length-upTo (2 * v .k + 1)))
+    rw (← same) (unit .k-high)
+
+setup-few : (bytes : List ℕ) (settings : Answer Settings) → readSetup bytes ≡ settings → length (replicasIn (playSetup settings .unit)) ≤ 7
+setup-few bytes (given u) e = omega (arith, setup-small bytes e, length-map (upTo (2 * u .k + 1)) (newState u), length-upTo (2 * u .k + 1))
 setup-few bytes (refused number) e = omega arith
 
 -- no replica comes or goes

@@ -8,3 +8,6 @@ pub mod Fits
 pub mod Instances
 pub mod Arrays
 pub mod Recorded
+pub mod Loop
+pub mod First
+pub mod Cards

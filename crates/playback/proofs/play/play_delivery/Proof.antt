@@ -88,12 +88,14 @@ returns : tie.Need-returns
 unfolding playEntry
 returns c =
     let done = c .before .before .before .before .before .before .before in
-    let a = done .before .before .before .before .before .before .before .before .before .before .before .args in
-    (left done, λ variables writes.
-    let replicas = replicaAt (a .u) (arrays (a .pending .now) (a .counts .now) variables writes (a .lasts .now)) in
-    let answer = deliver (replicas (a .number)) (take 24 (drop 16 (a .bytes .now))) (a .at) in
-    let gave = rw (c .enum-told .given .1, named done, request done) at (done .deliver-to .ensures .0 variables writes) in
-    rw (done-text (a .u) (a .place) (replicate outputSize 0) answer gave) (sym (put-nothing (page (a .text .now) (a .used)))))
+    let a = done .before .before .before .before .before .before .before .before .before .before .before .args in (
+      left done,
+      λ variables writes.
+          let replicas = replicaAt (a .u) (arrays (a .pending .now) (a .counts .now) variables writes (a .lasts .now)) in
+          let answer = deliver (replicas (a .number)) (take 24 (drop 16 (a .bytes .now))) (a .at) in
+          let gave = rw (c .enum-told .given .1, named done, request done) at (done .deliver-to .ensures .0 variables writes) in
+          rw (done-text (a .u) (a .place) (replicate outputSize 0) answer gave) (sym (put-nothing (page (a .text .now) (a .used)))),
+    )
 
 same-length-4 : tie.Need-same-length-4
 same-length-4 c = search needs
@@ -113,12 +115,14 @@ returns-2 c =
     let put = c .before .before in
     let told = put .before .before .before in
     let done = told .before .before .before .before .before .before .before in
-    let a = done .before .before .before .before .before .before .before .before .before .before .before .args in
-    (left done, λ variables writes.
-    let replicas = replicaAt (a .u) (arrays (a .pending .now) (a .counts .now) variables writes (a .lasts .now)) in
-    let answer = deliver (replicas (a .number)) (take 24 (drop 16 (a .bytes .now))) (a .at) in
-    let gave = rw (told .refusal .given .1, named done, request done) at (done .deliver-to .ensures .0 variables writes) in
-    rw (← refused-text (a .u) (a .place) (replicate outputSize 0) answer gave) (put .put-refusal .ensures))
+    let a = done .before .before .before .before .before .before .before .before .before .before .before .args in (
+      left done,
+      λ variables writes.
+          let replicas = replicaAt (a .u) (arrays (a .pending .now) (a .counts .now) variables writes (a .lasts .now)) in
+          let answer = deliver (replicas (a .number)) (take 24 (drop 16 (a .bytes .now))) (a .at) in
+          let gave = rw (told .refusal .given .1, named done, request done) at (done .deliver-to .ensures .0 variables writes) in
+          rw (← refused-text (a .u) (a .place) (replicate outputSize 0) answer gave) (put .put-refusal .ensures),
+    )
 
 pub play-delivery-spec : {M : Type 1} → statement M
 play-delivery-spec =

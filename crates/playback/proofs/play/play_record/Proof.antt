@@ -48,7 +48,7 @@ enum-known-number : tie.Need-enum-known-number
 enum-known-number c = search needs
 
 play-delivery-requires : tie.Need-play-delivery-requires
-play-delivery-requires c κs = 
+play-delivery-requires c κs =
     let read = c .before .before .before .before .before in
     let s = read .before .before .before .before .before .before .before .before .before in
     (few s (delivered read), (s .pre .0 .1, s .pre .0 .2, s .pre .1 .2))
@@ -57,7 +57,7 @@ enum-known-number-2 : tie.Need-enum-known-number-2
 enum-known-number-2 c = search needs
 
 play-turn-requires : tie.Need-play-turn-requires
-play-turn-requires c κs = 
+play-turn-requires c κs =
     let read = c .before .before .before .before .before .before .before in
     let s = read .before .before .before .before .before .before .before .before .before in
     let there = few s (turned read) in
@@ -82,7 +82,7 @@ same-length-4 : tie.Need-same-length-4
 same-length-4 c = search needs
 
 returns : tie.Need-returns
-returns c = 
+returns c =
     let done = c .before .before .before .before .before .before .before in
     let read = done .before .before .before .before .before .before in
     let s = read .before .before .before .before .before .before .before .before .before in
@@ -91,9 +91,10 @@ returns c =
     let there = entry-there (a .u .k) (a .bytes .now) (delivered read) in
     let next = done .play-delivery .ensures .0 (a .variables .now) (a .writes .now) in
     let text = done .play-delivery .ensures .1 (a .variables .now) (a .writes .now) in
-    rw (delivered read)
-    (read-unit (a .u) (a .place) (replicas s) _ e (there .0) (there .1) next,
-    text ∙ ap (putText (page (a .text .now) (a .used))) (read-text (a .u) (a .place) (replicas s) (replicas s) e (there .0) (there .1)))
+    rw (delivered read) (
+      read-unit (a .u) (a .place) (replicas s) _ e (there .0) (there .1) next,
+      text ∙ ap (putText (page (a .text .now) (a .used))) (read-text (a .u) (a .place) (replicas s) (replicas s) e (there .0) (there .1)),
+    )
 
 same-length-5 : tie.Need-same-length-5
 same-length-5 c = search needs
@@ -114,22 +115,23 @@ same-length-10 : tie.Need-same-length-10
 same-length-10 c = search needs
 
 returns-2 : tie.Need-returns-2
-returns-2 c = 
+returns-2 c =
     let done = c .before .before .before .before .before .before .before .before .before .before .before in
     let read = done .before .before .before .before .before .before .before .before in
     let s = read .before .before .before .before .before .before .before .before .before in
     let a = s .args in
     let e = turn (read .number2 .given .0 .0) (read .number2 .given .0 .1 .0) in
     let there = entry-there (a .u .k) (a .bytes .now) (turned read) in
-    rw (turned read)
-    (read-unit (a .u) (a .place) (replicas s) _ e (there .0) (there .1) (done .play-turn .ensures .0),
-    done .play-turn .ensures .1 ∙ ap (putText (page (a .text .now) (a .used))) (read-text (a .u) (a .place) (replicas s) (replicas s) e (there .0) (there .1)))
+    rw (turned read) (
+      read-unit (a .u) (a .place) (replicas s) _ e (there .0) (there .1) (done .play-turn .ensures .0),
+      done .play-turn .ensures .1 ∙ ap (putText (page (a .text .now) (a .used))) (read-text (a .u) (a .place) (replicas s) (replicas s) e (there .0) (there .1)),
+    )
 
 same-length-11 : tie.Need-same-length-11
 same-length-11 c = search needs
 
 returns-3 : tie.Need-returns-3
-returns-3 c = 
+returns-3 c =
     let put = c .before .before in
     let read = put .before .before .before in
     let s = read .before .before .before .before .before .before .before .before .before in

@@ -1,0 +1,60 @@
+-- The end of a journal: the lines of the replicas, one by one, and what is printed before them.
+use Prim.Native.Nat.{ℕ, zero, suc, _+_, _*_}
+use mathlib.Core.Path.{_≡_, refl, sym, ap, _∙_}
+use mathlib.Core.Bool.{cond}
+use mathlib.Core.List.{List, [], _∷_, _++_, map, map-append, append-nil}
+use native.Mathlib.Nat.{add-zero}
+use native.Mathlib.Numerals.{add-one}
+use native.Mathlib.Omega.{arith}
+use lib.Dec.{eqb}
+use lib.ListN.{length, getD}
+use borrow.Author.Tests.{ne-eqb}
+use Rattle.text.specs.Text.{joined, line}
+use Rattle.text.specs.Page.{Page, putText}
+use Rattle.text.proofs.Lines.{joined-append}
+use Rattle.text.proofs.Put.{put-put}
+use Rattle.rules.specs.Lists.{upTo}
+use Rattle.rules.specs.declared.Settings.{Settings}
+use Rattle.rules.specs.Replica.{State}
+use Rattle.playback.specs.Lines.{cardWord, refusalLine, cardLine}
+use Rattle.playback.specs.Journal.{fresh, playing}
+use Rattle.playback.specs.Blocks.{playEnd}
+use Rattle.playback.specs.Arrays.{Arrays, replicaAt}
+use Rattle.playback.proofs.Arrays.{part-at}
+
+-- ── the lines of the replicas ──
+
+module _ (u : Settings) (a : Arrays) where
+  -- of the first n
+  abbrev pub cards : ℕ → List ℕ
+  cards n = joined (map cardLine (map (replicaAt u a) (upTo n)))
+
+  card-is : (i : ℕ) → cardLine (replicaAt u a (suc i)) ≡ line cardWord (suc i ∷ getD (a .variables) (256 * i) 0 ∷ getD (a .writes) i 0 ∷ [])
+  unfolding replicaAt
+  card-is i = rw (part-at 256 i (a .variables) 0 0 (omega arith), add-zero (256 * i))
+
+  pub cards-next : (p : Page) (i : ℕ)
+      → putText (putText p (cards i)) (line cardWord ((i + 1) ∷ getD (a .variables) (256 * i) 0 ∷ getD (a .writes) i 0 ∷ [])) ≡ putText p (cards (i + 1))
+  cards-next p i =
+      let front = map (replicaAt u a) (upTo i) in
+      let one = replicaAt u a (suc i) in
+      let all : cards (suc i) ≡ cards i ++ cardLine one =
+      rw (map-append (replicaAt u a) (upTo i) (suc i ∷ []), map-append cardLine front (one ∷ []), joined-append (map cardLine front) (cardLine one ∷ []), append-nil (cardLine one)) in
+      rw (add-one i, all, ← card-is i) (put-put p (cards i) (cardLine one))
+
+-- ── the end ──
+
+-- what is printed of bytes that are left
+abbrev part : ℕ → List ℕ → List ℕ
+part place rest = cond (eqb (length rest) 0) [] (refusalLine place 18)
+
+pub end-fresh : (rest : List ℕ) → part 1 rest ≡ playEnd fresh rest
+unfolding playEnd
+end-fresh [] = refl
+end-fresh (b ∷ rest) = rw (ne-eqb (length (b ∷ rest)) 0 (omega arith)) (sym (append-nil (refusalLine 1 18)))
+
+pub end-playing : (u : Settings) (place : ℕ) (replicas : List State) (rest : List ℕ)
+    → part place rest ++ joined (map cardLine replicas) ≡ playEnd (playing u place replicas) rest
+unfolding playEnd
+end-playing u place replicas [] = refl
+end-playing u place replicas (b ∷ rest) = rw (ne-eqb (length (b ∷ rest)) 0 (omega arith), append-nil (refusalLine place 18))
