@@ -1,170 +1,190 @@
-// A journal played from a file: its records are handed one by one to the library `playback`.
-ghost use Prim.Native.Nat.{_<_, _≤_};
-use crate::input::Span;
-use crate::input::next_record;
-use crate::input::no_record;
-use crate::input::report_unread;
-use crate::output::Printed;
-use crate::output::TEXT;
-use crate::output::flush;
-use crate::output::make_room;
-use crate::output::print_answer;
-use entry::EntryRead;
-use entry::SetupRead;
-use limits::MAX_K;
+// A journal played from a file. What a read gives is played and its text written before the next read,
+// so whoever waits at the end of a live pipe sees the lines of a turn at once.
+ghost use mathlib.Core.Path.{_≡_};
+ghost use Prim.Native.Nat.{_+_, _≤_};
+ghost use lib.ListN.{length};
+use crate::output::report_unread;
+use crate::output::write_first;
 use limits::MAX_REPLICAS;
-use limits::OUTPUT;
-use replica::Replica;
-use rules::Settings;
+use limits::UNIT_PLACES;
+use limits::UNIT_QUEUES;
+use limits::UNIT_VARIABLES;
+use playback::Stage;
 
-// The replicas of a unit; those past its 2k + 1 are never named.
-fn new_replicas(u: Settings) -> [Replica; MAX_REPLICAS] {
-    let one = replica::make(u, 1);
-    let first = one.replica;
-    let mut replicas = [first; MAX_REPLICAS];
-    let mut at: usize = 1;
-    while at < MAX_REPLICAS {
-        let made = replica::make(u, at as u8 + 1);
-        let r = made.replica;
-        replicas[at] = r;
-        at += 1;
-    }
-    replicas
+// The bytes that are read at a time, 1,600 records, and those of the text that is collected.
+const BLOCK: usize = 64000;
+
+const TEXT: usize = 65536;
+
+// How far the records of a read have come; `ok` where all text was written.
+pub struct Playing {
+    pub stage: Stage,
+    pub taken: usize,
+    pub ok: bool,
 }
 
-fn index_of(number: u8) -> usize
-    ensures { λ i. ⌜ i < 7 ⌝ }
-{
-    if number < 1 {
-        return 0;
-    }
-    if 7 < number {
-        return 0;
-    }
-    number as usize - 1
-}
-
-// Where the replica that an entry names stands; 0 where the record was refused.
-fn replica_index(e: EntryRead) -> usize
-    ensures { λ i. ⌜ i < 7 ⌝ }
-{
-    match e {
-        EntryRead::Delivery(number, _) => index_of(number),
-        EntryRead::Turn(number, _) => index_of(number),
-        EntryRead::Refused(_) => 0,
-    }
-}
-
-// How many replicas a unit has.
-fn replica_count(k: u8) -> usize
-    ensures { λ n. ⌜ n ≤ 7 ⌝ }
-{
-    if MAX_K < k {
-        return MAX_REPLICAS;
-    }
-    2 * k as usize + 1
-}
-
-// At the end a line for each replica.
-fn print_cards(
-    replicas: [Replica; MAX_REPLICAS],
-    count: usize,
+// All whole records of a block, and their text, as often as it fills.
+fn play_all(
+    first: Stage,
+    block: &[u8],
+    pending: &mut [[u64; 4]; UNIT_PLACES],
+    counts: &mut [usize; UNIT_QUEUES],
+    variables: &mut [u32; UNIT_VARIABLES],
+    writes: &mut [u64; MAX_REPLICAS],
+    lasts: &mut [u64; MAX_REPLICAS],
     text: &mut [u8; TEXT],
-    p: Printed,
-) -> Printed
-    requires { ⌜ count ≤ 7 ⌝ }
+) -> Playing
+    ensures { λ p. ⌜ p .taken ≤ length (now (block .entry)) ⌝ }
 {
-    let ready = make_room(text, p);
-    let mut used = ready.used;
-    let mut i: usize = 0;
-    while i < count {
-        let r = replicas[i];
-        used = playback::put_card(r, text, used);
-        i += 1;
+    let mut stage = first;
+    let mut taken: usize = 0;
+    let mut ok = true;
+    let mut going = true;
+    while going {
+        let b = playback::play_block(
+            stage,
+            &block[taken..],
+            pending,
+            counts,
+            variables,
+            writes,
+            lasts,
+            text,
+        );
+        stage = b.stage;
+        taken += b.taken;
+        ok = write_first(text, b.used);
+        going = ok & (0 < b.taken);
     }
-    Printed { used, ok: ready.ok }
+    Playing { stage, taken, ok }
 }
 
-// The end of a journal. Where the input could not be read to its end, what was collected is
-// written, and no cards.
+fn has_stopped(stage: Stage) -> bool {
+    match stage {
+        Stage::First => false,
+        Stage::Playing(_, _) => false,
+        Stage::Stopped => true,
+    }
+}
+
+// What a read gave: how many bytes, none at the end of the input.
+pub struct Got {
+    pub count: usize,
+    pub failed: bool,
+}
+
+// One read, behind the bytes that are held.
+fn read_more(file: i32, block: &mut [u8], held: usize) -> Got
+    requires { ⌜ (length (now block) ≡ 64000) × (held ≤ 64000) ⌝ }
+    ensures { λ g. ⌜ held + g .count ≤ 64000 ⌝ }
+{
+    let got = libc::read(file, &mut block[held..]);
+    if got < 0 {
+        return Got {
+            count: 0,
+            failed: true,
+        };
+    }
+    Got {
+        count: io::count(got, &block[held..]),
+        failed: false,
+    }
+}
+
+// What is held after the records of a read: the bytes that are no whole record.
+pub struct Held {
+    pub stage: Stage,
+    pub count: usize,
+    pub ok: bool,
+}
+
+fn play_read(
+    stage: Stage,
+    block: &mut [u8],
+    filled: usize,
+    pending: &mut [[u64; 4]; UNIT_PLACES],
+    counts: &mut [usize; UNIT_QUEUES],
+    variables: &mut [u32; UNIT_VARIABLES],
+    writes: &mut [u64; MAX_REPLICAS],
+    lasts: &mut [u64; MAX_REPLICAS],
+    text: &mut [u8; TEXT],
+) -> Held
+    requires { ⌜ (length (now block) ≡ 64000) × (filled ≤ 64000) ⌝ }
+    ensures { λ h. ⌜ h .count ≤ 64000 ⌝ }
+{
+    let p = play_all(
+        stage,
+        &block[0..filled],
+        pending,
+        counts,
+        variables,
+        writes,
+        lasts,
+        text,
+    );
+    let count = playback::keep_left(block, p.taken, filled);
+    let next = p.stage;
+    Held {
+        stage: next,
+        count,
+        ok: p.ok,
+    }
+}
+
+// The end of the input.
 fn finish(
-    k: u8,
-    replicas: [Replica; MAX_REPLICAS],
+    stage: Stage,
+    block: &[u8],
+    held: usize,
+    variables: &[u32; UNIT_VARIABLES],
+    writes: &[u64; MAX_REPLICAS],
     text: &mut [u8; TEXT],
-    p: Printed,
-    failed: bool,
-) -> bool {
-    if !p.ok {
-        return false;
-    }
-    if failed {
-        flush(text, p);
-        report_unread();
-        return false;
-    }
-    let all = print_cards(replicas, replica_count(k), text, p);
-    let last = flush(text, all);
-    last.ok
-}
-
-// The records after the setup, which stands in the block that is held at `first`.
-fn play_records(u: Settings, file: i32, held: [u8; 64000], first: Span) -> bool
-    requires { ⌜ first .filled ≤ 64000 ⌝ }
+) -> bool
+    requires { ⌜ (length (now block) ≡ 64000) × (held ≤ 64000) ⌝ }
 {
-    let k = u.k;
-    let groups = u.groups;
-    let mut replicas = new_replicas(u);
-    let mut block = held;
-    let mut sent = [0u8; OUTPUT];
-    let mut text = [0u8; TEXT];
-    let mut printed = Printed { used: 0, ok: true };
-    let mut span = first;
-    let mut place: u64 = 1;
-    while place < 18446744073709551615 {
-        span = next_record(file, &mut block, span);
-        let from = span.from;
-        let to = span.to;
-        if from == to {
-            break;
-        }
-        place += 1;
-        let e = entry::read_entry(k, &block[from..to]);
-        let i = replica_index(e);
-        let r = replicas[i];
-        let p = playback::play_entry(r, e, &block[from..to], &mut sent);
-        let after = p.replica;
-        replicas[i] = after;
-        let answer = p.answer;
-        printed = print_answer(k, groups, place, answer, &sent, &mut text, printed);
-        if !printed.ok {
-            break;
-        }
-    }
-    finish(k, replicas, &mut text, printed, span.failed)
+    let used = playback::play_end(stage, &block[0..held], variables, writes, text);
+    write_first(text, used)
 }
 
-// After a refused first record nothing follows.
-fn print_refusal(number: u8) -> bool {
-    let mut text = [0u8; 160];
-    let used = playback::put_refusal(1, number, &mut text, 0);
-    let p = flush(&text, Printed { used, ok: true });
-    p.ok
-}
-
-// Whether all of it was read and written.
+// Whether all of it was read and written. Where a read fails there are no cards, and after a refused
+// first record nothing more is read.
 pub(crate) fn play_journal(file: i32) -> bool {
-    let mut block = [0u8; 64000];
-    let span = next_record(file, &mut block, no_record());
-    let from = span.from;
-    let to = span.to;
-    if from == to {
-        if span.failed {
+    let mut pending = [[0u64; 4]; UNIT_PLACES];
+    let mut counts = [0usize; UNIT_QUEUES];
+    let mut variables = [0u32; UNIT_VARIABLES];
+    let mut writes = [0u64; MAX_REPLICAS];
+    let mut lasts = [0u64; MAX_REPLICAS];
+    let mut block = [0u8; BLOCK];
+    let mut text = [0u8; TEXT];
+    let mut stage = Stage::First;
+    let mut held: usize = 0;
+    let mut reads: u64 = 0;
+    while reads < 18446744073709551615 {
+        reads += 1;
+        let got = read_more(file, &mut block, held);
+        if got.failed {
             report_unread();
+            return false;
         }
-        return !span.failed;
+        if got.count == 0 {
+            return finish(stage, &block, held, &variables, &writes, &mut text);
+        }
+        let next = play_read(
+            stage,
+            &mut block,
+            held + got.count,
+            &mut pending,
+            &mut counts,
+            &mut variables,
+            &mut writes,
+            &mut lasts,
+            &mut text,
+        );
+        stage = next.stage;
+        held = next.count;
+        if !next.ok | has_stopped(stage) {
+            return next.ok;
+        }
     }
-    match entry::read_setup(&block[from..to]) {
-        SetupRead::Accepted(u) => play_records(u, file, block, span),
-        SetupRead::Refused(number) => print_refusal(number),
-    }
+    false
 }

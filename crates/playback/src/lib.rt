@@ -2,11 +2,12 @@
 // the lines that are printed. The program that reads and writes is crates/journal.
 //
 // Read on in this order: `stage` (how far it has come), `lines` (what is printed), `unit` (the replicas,
-// lent side by side), `play` (one record), `block` (a block of them), `end`. specs/Journal.antt says what
-// a whole journal prints, specs/Blocks.antt what a call does, and proofs/Cuts.antt that the calls print
-// the whole journal, however its input is cut.
+// lent side by side), `play` (one record), `block` (a block of them), `end`, `left` (the bytes between two
+// blocks). specs/Journal.antt says what a whole journal prints, specs/Blocks.antt what a call does, and
+// proofs/Cuts.antt that the calls print the whole journal, however its input is cut.
 mod block;
 mod end;
+mod left;
 mod lines;
 mod play;
 mod stage;
@@ -15,4 +16,5 @@ mod unit;
 pub use block::Block;
 pub use block::play_block;
 pub use end::play_end;
+pub use left::keep_left;
 pub use stage::Stage;
