@@ -1,13 +1,12 @@
 -- Unanimity, request by request: each is a write like the first, and its sender has not been seen.
 use Prim.Native.Nat.{ℕ, _+_, _<_}
 use mathlib.Core.Path.{_≡_, refl, sym}
-use mathlib.Core.Bool.{Bool, true, false, not, _&&_, _||_, and-assoc, and-comm, and-true, and-false, or-true, or-false}
+use mathlib.Core.Bool.{Bool, true, false, not, _&&_, and-assoc, and-comm, and-true, and-false}
 use mathlib.Core.List.{List, [], _∷_}
 use native.Mathlib.Omega.{arith}
-use mir.Val.{boolByte}
 use lib.Dec.{eqb, ltb}
 use lib.ListN.{length, getD, set, replicate, getD-replicate, length-replicate, List·getD-eq-default}
-use lib.Seq.{set-getD, getD-set-same, getD-set-other}
+use lib.Seq.{getD-set-same, getD-set-other}
 use borrow.Author.Tests.{eqb-true, eqb-false, eq-eqb, ltb-true, ltb-false}
 use Rattle.layout.specs.declared.clock.Timestamp.{Timestamp}
 use Rattle.record.specs.declared.request.Request.{Request}
@@ -37,8 +36,12 @@ module _ (t : Timestamp) (p : Pending) (rest : List Pending) where
       (λ m. case (isRead (p .request)) (λ r. rw (m, r)) (λ r. true-not-false other (rw (m, r)) e))
       (λ m. rw m)
 
-  pub size-step : (size : ℕ) → size + boolByte mine + length (requestsAt t rest) ≡ size + length (requestsAt t (p ∷ rest))
-  size-step size = case mine (λ e. rw e (omega arith)) (λ e. rw e (omega arith))
+  -- a request of another batch makes no difference
+  pub batch-pass : mine ≡ false → requestsAt t (p ∷ rest) ≡ requestsAt t rest
+  batch-pass e = rw e
+
+  pub size-step : (size : ℕ) → mine ≡ true → size + 1 + length (requestsAt t rest) ≡ size + length (requestsAt t (p ∷ rest))
+  size-step size e = rw e (omega arith)
 
 -- ── unanimity ──
 
@@ -70,19 +73,15 @@ module _ (first : Request) where
     abbrev was : Bool
     was = getD seen (p .request .process) false
 
-    -- one more request, whether or not it is of the batch: whether its sender was seen, and is from now on
-    pub agree-step : (same : Bool) {mine is : Bool} → mine ≡ stamped t (p .request) → is ≡ was || stamped t (p .request)
-        → (same && (not mine || ((isWrite (p .request) && sameWrite first (p .request)) && not was)))
-        && agree (set seen (p .request .process) is) (requestsAt t rest)
+    -- one more request of the batch: from now on its sender is seen
+    pub agree-step : (same : Bool) → stamped t (p .request) ≡ true
+        → (same && ((isWrite (p .request) && sameWrite first (p .request)) && not was)) && agree (set seen (p .request .process) true) (requestsAt t rest)
         ≡ same && agree seen (requestsAt t (p ∷ rest))
-    agree-step same m i =
+    agree-step same e =
         let batch = requestsAt t rest in
         let d = allSendersDiffer batch in
         let f = not (some (λ q. eqb (p .request .process) (q .process)) batch) in
-        case (stamped t (p .request))
-        (λ e. rw (i, m, e, or-true was, seen-more seen (p .request .process) batch room)
-        (shuffle same (agrees seen (p .request)) (every (agrees seen) batch) f d))
-        (λ e. rw (i, m, e, or-false was, set-getD seen (p .request .process) false, and-true same))
+        rw (e, seen-more seen (p .request .process) batch room) (shuffle same (agrees seen (p .request)) (every (agrees seen) batch) f d)
       where
         shuffle : (a b c d e : Bool) → (a && b) && ((c && d) && e) ≡ a && ((b && c) && (d && e))
         shuffle a b c d e = simp and-assoc

@@ -60,12 +60,13 @@ fn is_unanimous_from(queue: &[[u64; 4]], count: usize, k: u8, t: Timestamp, firs
     let mut i: usize = 0;
     while i < n {
         let p = pending_of(queue[i]);
-        let request = p.request;
-        let mine = in_batch(t, p);
-        let sender = request.process as usize;
-        same = same & (!mine | (request.agrees(first) & !seen[sender]));
-        seen[sender] = seen[sender] | mine;
-        size += mine as usize;
+        if in_batch(t, p) {
+            let request = p.request;
+            let sender = request.process as usize;
+            same = same & (request.agrees(first) & !seen[sender]);
+            seen[sender] = true;
+            size += 1;
+        }
         i += 1;
     }
     same & (size == k as usize + 1)

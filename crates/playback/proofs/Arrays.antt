@@ -1,11 +1,11 @@
 -- One replica of a unit is changed in the arrays, and no other.
-use Prim.Native.Nat.{ℕ, zero, suc, _+_, _*_, _-_, _≤_, _<_}
-use mathlib.Core.Path.{_≡_, refl, sym, ap, _∙_}
+use Prim.Native.Nat.{ℕ, zero, suc, _+_, _*_, _-_, _<_}
+use mathlib.Core.Path.{_≡_, refl, _∙_}
 use mathlib.Core.Logic.{_≢_}
 use mathlib.Core.List.{List, [], _∷_, _++_}
 use native.Mathlib.Omega.{arith}
 use lib.Dec.{eqb}
-use lib.ListN.{length, getD, set, take, drop, length-take, length-drop}
+use lib.ListN.{length, getD, set, drop, length-take, length-drop}
 use lib.Seq.{getD-take, getD-drop, getD-set-same, getD-set-other}
 use borrow.Author.Tests.{eqb-true, eqb-false}
 use borrow.Rule.Slice.PartMut.{midOf, putMid}
@@ -16,10 +16,10 @@ use Rattle.rules.specs.declared.Pending.{Pending}
 use Rattle.rules.specs.declared.Settings.{Settings}
 use Rattle.question.proofs.Tests.{case}
 use Rattle.laws.proofs.Queues.{fun-ext}
-use Rattle.state.specs.State.{partAt, queueOf}
+use Rattle.state.specs.State.{partAt}
 use Rattle.state.proofs.Parts.{part-set, part-set-other, part-lent, part-back, part-others}
 use Rattle.queue.specs.Row.{pendingOf}
-use Rattle.queue.specs.Queue.{placesIn, countOf, queuesIn}
+use Rattle.queue.specs.Queue.{placesIn, queuesIn}
 use Rattle.queue.proofs.Rows.{places-length, place-set}
 use Rattle.delivery.proofs.Added.{added}
 use Rattle.step.specs.Output.{stateIn}

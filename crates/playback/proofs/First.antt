@@ -1,8 +1,7 @@
 -- The first record of a journal: what it sets up, and what the call comes to that plays it.
-use Prim.Native.Nat.{ℕ, zero, suc, _+_, _*_, _-_, _≤_, _<_, min}
-use mathlib.Core.Path.{_≡_, refl, sym, ap, _∙_}
-use mathlib.Core.Bool.{true}
-use mathlib.Core.List.{List, [], _∷_, _++_, map, map-append, append-nil}
+use Prim.Native.Nat.{ℕ, zero, suc, _+_, _*_, _-_, _≤_, _<_}
+use mathlib.Core.Path.{_≡_, refl, ap}
+use mathlib.Core.List.{List, [], _∷_, map, map-append, append-nil}
 use native.Mathlib.Omega.{arith}
 use lib.ListN.{length, take, drop, replicate, getD-replicate}
 use borrow.Author.Tests.{le-leb}
@@ -16,8 +15,8 @@ use Rattle.state.proofs.Queues.{queues-new}
 use Rattle.queue.specs.Queue.{placesIn}
 use Rattle.entry.specs.Entry.{readSetup}
 use Rattle.playback.specs.Lines.{refusalLine}
-use Rattle.playback.specs.Journal.{fresh, playing, stopped, playSetup, playRecord}
-use Rattle.playback.specs.Blocks.{linesSize, Played, playBlock}
+use Rattle.playback.specs.Journal.{fresh, playing, stopped, playRecord}
+use Rattle.playback.specs.Blocks.{linesSize, playBlock}
 use Rattle.playback.specs.Arrays.{Arrays, arrays, replicaAt, unitOf}
 use Rattle.playback.proofs.Loop.{block-next, block-stopped}
 

@@ -1,21 +1,19 @@
 -- A block record by record: what is played so far, and what is left of the block behind it, is the whole call.
-use Prim.Native.Nat.{ℕ, zero, suc, _+_, _-_, _≤_, _<_, min}
+use Prim.Native.Nat.{ℕ, zero, suc, _+_, _-_, _≤_, _<_}
 use mathlib.Core.Path.{_≡_, refl, sym, ap, _∙_}
-use mathlib.Core.Bool.{Bool, true, false, _&&_}
+use mathlib.Core.Bool.{true, false, _&&_}
 use mathlib.Core.List.{List, [], _∷_, _++_}
 use native.Mathlib.Omega.{arith}
 use lib.Dec.{leb, ltb}
 use lib.ListN.{length, take, drop, length-take, length-drop}
 use lib.Seq.{drop-drop}
-use borrow.Author.Tests.{leb-true, leb-false, lt-ltb, le-ltb, le-leb}
-use Rattle.limits.specs.Limits.{entrySize, maxPlace}
+use borrow.Author.Tests.{leb-true, leb-false, lt-ltb, le-ltb}
+use Rattle.limits.specs.Limits.{entrySize}
 use Rattle.text.specs.Page.{Page, page, putText}
 use Rattle.text.proofs.Put.{put-nothing, put-put}
-use Rattle.question.proofs.Tests.{case, both}
-use Rattle.rules.specs.declared.Settings.{Settings}
-use Rattle.rules.specs.Replica.{State}
-use Rattle.playback.specs.Journal.{Unit, playing, stopped, playRecord}
-use Rattle.playback.specs.Blocks.{linesSize, wholeEntries, goesOn, Played, playRecords, playBlock}
+use Rattle.question.proofs.Tests.{case}
+use Rattle.playback.specs.Journal.{Unit, stopped, playRecord}
+use Rattle.playback.specs.Blocks.{wholeEntries, goesOn, Played, playRecords, playBlock}
 
 -- ── the whole records of a block ──
 

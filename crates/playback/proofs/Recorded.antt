@@ -1,14 +1,14 @@
 -- A replica of a unit by its number, and what a record leaves of the unit.
 use Prim.Native.Nat.{ℕ, zero, suc, _+_, _*_, _-_, _≤_, _<_}
-use mathlib.Core.Path.{_≡_, refl, sym, ap, _∙_}
-use mathlib.Core.List.{List, [], _∷_, _++_, map, map-append}
+use mathlib.Core.Path.{_≡_, refl, sym, _∙_}
+use mathlib.Core.List.{List, [], _∷_, map, map-append}
 use native.Mathlib.Omega.{arith}
-use lib.Dec.{eqb, leb, ltb}
+use lib.Dec.{eqb, ltb}
 use lib.ListN.{length, getD, set, replicate, length-map, List·getD-append}
 use lib.Seq.{getD-at, set-append-left, set-at}
-use borrow.Author.Tests.{eqb-true, eqb-false, ltb-true, ltb-false, eq-eqb, ne-eqb}
+use borrow.Author.Tests.{eqb-true, ltb-true, ltb-false, eq-eqb, ne-eqb}
 use Rattle.limits.specs.Limits.{outputSize}
-use Rattle.question.specs.Question.{Answer, given, refused, after, mapAnswer, within}
+use Rattle.question.specs.Question.{Answer, given, refused, after, mapAnswer}
 use Rattle.question.proofs.Questions.{ask-all-yes, ask-through, same-given}
 use Rattle.question.proofs.Tests.{case, within-true}
 use Rattle.rules.specs.Lists.{upTo}
@@ -16,7 +16,7 @@ use Rattle.rules.specs.declared.Settings.{Settings}
 use Rattle.rules.specs.Replica.{State, Stepped, newState}
 use Rattle.laws.proofs.Lists.{length-upTo}
 use Rattle.laws.proofs.Queues.{fun-ext}
-use Rattle.entry.specs.Entry.{Entry, delivery, turn, kindOf, replicaOf, entryIn, entryQuestions, readEntry}
+use Rattle.entry.specs.Entry.{Entry, kindOf, replicaOf, entryIn, entryQuestions, readEntry}
 use Rattle.playback.specs.Play.{playEntry}
 use Rattle.playback.specs.Journal.{playing, replicaFor, linesOf, putBack, playRead}
 use Rattle.playback.specs.Arrays.{replaced, unitOf}

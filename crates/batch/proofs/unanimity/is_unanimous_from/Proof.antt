@@ -1,16 +1,17 @@
 -- What was seen so far, and that what is left agrees, is that all agree.
 use Prim.Native.Nat.{_+_, _≤_, _-_}
 use mathlib.Core.Path.{_≡_, refl, sym, _∙_}
-use mathlib.Core.Bool.{false, _&&_, and-true}
+use mathlib.Core.Logic.{⊎-elim}
+use mathlib.Core.Bool.{true, false, _&&_, and-true}
 use native.Mathlib.Nat.{add-zero}
 use native.Mathlib.Omega.{arith}
 use lib.ListN.{length, drop, replicate, length-set}
 use borrow.Author.Needs.{needs}
+use Rattle.rules.specs.Replica.{stamped}
 use Rattle.queue.specs.Queue.{waiting}
 use Rattle.queue.proofs.Left.{left-row, left-end}
-use Rattle.question.proofs.Tests.{byte-one}
 use Rattle.batch.specs.Head.{requestsAt}
-use Rattle.batch.proofs.Agree.{agree, size-step, agree-step, agree-unanimous}
+use Rattle.batch.proofs.Agree.{batch-pass, agree, size-step, agree-step, agree-unanimous}
 use Rattle.batch.proofs.unanimity.is_unanimous_from.Statement.{statement}
 use Rattle.batch.proofs.unanimity.is_unanimous_from.Tie as tie
 
@@ -52,17 +53,11 @@ agrees-requires c κs = search needs
 array-read-same : tie.Need-array-read-same Inv-loop μ-loop
 array-read-same c = search needs
 
-array-read-seen : tie.Need-array-read-seen Inv-loop μ-loop
-array-read-seen c = search needs
-
 array-write-seen : tie.Need-array-write-seen Inv-loop μ-loop
 array-write-seen c = search needs
 
-cast-size : tie.Need-cast-size Inv-loop μ-loop
-cast-size c = search needs
-
 add-size : tie.Need-add-size Inv-loop μ-loop
-add-size c = omega (arith, byte-one (c .before .before .in-batch .result))
+add-size c = search needs
 
 add-i : tie.Need-add-i Inv-loop μ-loop
 add-i c = search needs
@@ -72,22 +67,33 @@ loop-less c = search needs
 
 loop-again : tie.Need-loop-again Inv-loop μ-loop
 loop-again c =
-    let read = c .before .before .before .before in
+    let read = c .before .before in
     let l = read .before .before .before in
     let a = l .before .before .args in
     let inv = l .loop .inv in
     let p = read .pending-of .result in
     let rest = drop (l .loop .i + 1) (waiting (a .queue .now) (a .count)) in
     let next = left-row (a .queue .now) (a .count) (l .loop .i) _ (read .pending-of .ensures) (omega (arith, l .before .pending-count .ensures .0)) in
-    let mine = c .before .before .in-batch .ensures in
-    let size = size-step (a .t) p rest (l .loop .size) ∙ (rw next at (inv .3)) in (
+    let asked = sym (c .before .in-batch .ensures) in
+    ⊎-elim
+    (λ w.
+    let mine : stamped (a .t) (p .request) ≡ true = asked ∙ w .0 .taken in (
       omega arith,
-      simp length-set (inv .1),
-      omega (arith, byte-one (c .before .before .in-batch .result)),
-      rw mine size,
-      rw (c .agrees .ensures)
-          (agree-step (a .first) (a .t) p rest (l .loop .seen) (omega arith) (l .loop .same) mine (rw mine refl) ∙ (rw next at (inv .4))),
-    )
+      rw (w .4) (simp length-set (inv .1)),
+      omega (arith, w .5),
+      rw (w .5) (size-step (a .t) p rest (l .loop .size) mine ∙ (rw next at (inv .3))),
+      rw (w .4, w .6, w .3 .ensures) (agree-step (a .first) (a .t) p rest (l .loop .seen) (omega arith) (l .loop .same) mine ∙ (rw next at (inv .4))),
+    ))
+    (λ w.
+    let other : stamped (a .t) (p .request) ≡ false = asked ∙ w .0 .left in
+    let same = batch-pass (a .t) p rest other in (
+      omega arith,
+      rw (w .1) (inv .1),
+      omega (arith, w .2),
+      rw (w .2, ← same) (rw next at (inv .3)),
+      rw (w .1, w .3, ← same) (rw next at (inv .4)),
+    ))
+    (c .if1 .came)
 
 add-result : tie.Need-add-result Inv-loop μ-loop
 add-result c = search needs
@@ -117,9 +123,7 @@ is-unanimous-from-spec =
     cast-sender
     agrees-requires
     array-read-same
-    array-read-seen
     array-write-seen
-    cast-size
     add-size
     add-i
     loop-less

@@ -1,14 +1,13 @@
 -- The request is put behind those of its group, in a place of the group's own.
-use Prim.Native.Nat.{ℕ, suc, _+_, _*_, _-_, _<_}
+use Prim.Native.Nat.{ℕ, suc, _-_, _<_}
 use mathlib.Core.Path.{_≡_, sym, _∙_, ap}
-use mathlib.Core.List.{List, [], _∷_, _++_}
+use mathlib.Core.List.{List}
 use native.Mathlib.Omega.{arith}
-use lib.ListN.{length, getD, set, length-map}
+use lib.ListN.{length, getD, length-map}
 use borrow.Author.Needs.{needs}
 use Rattle.layout.specs.declared.clock.LocalTime.{LocalTime}
-use Rattle.rules.specs.Replica.{State, replace}
+use Rattle.rules.specs.Replica.{State}
 use Rattle.rules.specs.declared.Pending.{Pending}
-use Rattle.state.specs.State.{placesFrom, queueOf}
 use Rattle.state.specs.declared.state.Replica.{Replica}
 use Rattle.queue.proofs.Counts.{count-at}
 use Rattle.delivery.proofs.Added.{added}

@@ -1,7 +1,7 @@
 -- The setup makes the replicas new; the rest of the block is played on them.
 use Prim.Native.Nat.{ℕ, _+_, _-_, _≤_}
 use mathlib.Core.Path.{_≡_, refl, sym, ap, _∙_}
-use mathlib.Core.Bool.{true, false, _&&_, and-true}
+use mathlib.Core.Bool.{false, _&&_, and-true}
 use mathlib.Core.List.{List}
 use native.Mathlib.Omega.{arith}
 use lib.Dec.{leb, ltb}
@@ -14,7 +14,7 @@ use Rattle.question.specs.Question.{given, refused}
 use Rattle.question.proofs.Tests.{both}
 use Rattle.entry.specs.Entry.{readSetup, setupAnswer}
 use Rattle.playback.specs.Journal.{fresh, playing}
-use Rattle.playback.specs.Blocks.{linesSize, playBlock}
+use Rattle.playback.specs.Blocks.{linesSize}
 use Rattle.playback.specs.Arrays.{replicaAt, unitOf}
 use Rattle.text.specs.Page.{page}
 use Rattle.text.proofs.Put.{put-nothing}

@@ -1,16 +1,16 @@
 -- What is played so far, and what is left of the block behind it, is the whole call.
-use Prim.Native.Nat.{ℕ, _+_, _-_, _≤_, _<_}
+use Prim.Native.Nat.{_+_, _-_, _≤_, _<_}
 use mathlib.Core.Path.{_≡_, refl, sym, _∙_}
-use mathlib.Core.Bool.{true, false, _&&_, and-assoc}
+use mathlib.Core.Bool.{_&&_, and-assoc}
 use native.Mathlib.Omega.{arith}
 use lib.Dec.{leb, ltb}
-use lib.ListN.{length, take, drop}
+use lib.ListN.{length}
 use borrow.Author.Tests.{leb-true, ltb-true, le-leb, lt-ltb}
 use borrow.Author.Needs.{needs}
 use Rattle.limits.specs.Limits.{entrySize, maxPlace}
 use Rattle.text.specs.Page.{page}
 use Rattle.question.proofs.Tests.{both}
-use Rattle.playback.specs.Journal.{Unit, playing, playRecord}
+use Rattle.playback.specs.Journal.{playing, playRecord}
 use Rattle.playback.specs.Blocks.{linesSize, playBlock}
 use Rattle.playback.specs.Arrays.{arrays, replicaAt, unitOf}
 use Rattle.playback.proofs.Loop.{put-within, Left, left-next, left-over}

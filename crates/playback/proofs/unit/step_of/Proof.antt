@@ -1,12 +1,7 @@
 -- The replica's parts are lent, and come back.
-use Prim.Native.Nat.{suc, _+_, _*_}
-use mathlib.Core.Path.{_≡_, ap, sym, _∙_}
 use native.Mathlib.Numerals.{add-one}
-use native.Mathlib.Omega.{arith}
 use borrow.Author.Needs.{needs}
-use Rattle.question.specs.Question.{mapAnswer, after}
-use Rattle.rules.specs.Replica.{State, step}
-use Rattle.playback.specs.Arrays.{Arrays, arrays, replicaAt}
+use Rattle.playback.specs.Arrays.{arrays}
 use Rattle.playback.proofs.Arrays.{arrays-lent, arrays-back}
 use Rattle.playback.proofs.unit.step_of.Statement.{statement}
 use Rattle.playback.proofs.unit.step_of.Tie as tie

@@ -1,6 +1,5 @@
 -- The first groups are copied whole, then the first requests of one.
 use Prim.Native.Nat.{_+_, _*_, _-_, _≤_}
-use mathlib.Core.List.{[]}
 use mathlib.Core.Path.{_≡_, _∙_}
 use native.Mathlib.Omega.{arith}
 use lib.ListN.{length, length-set}

@@ -9,7 +9,7 @@ use Rattle.rules.specs.Replica.{State, written, visits, stepped, step}
 use Rattle.rules.specs.declared.Pending.{Pending}
 use Rattle.state.specs.State.{stateOf}
 use Rattle.state.specs.declared.state.Replica.{Replica}
-use Rattle.step.specs.Output.{Reached, sends, stateIn}
+use Rattle.step.specs.Output.{sends, stateIn}
 use Rattle.step.proofs.Asked.{step-next, stepped-reached}
 use Rattle.step.proofs.Sends.{reached-is}
 use Rattle.step.proofs.stepping.step.Statement.{statement}
