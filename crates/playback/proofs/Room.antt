@@ -1,16 +1,13 @@
--- 8,844 bytes are room for the messages of a step, 67 of at most 132, and for the cards at the end, seven of at most 68; a refusal takes at
--- most 45. So with that much room all lines stand there whole. Assumes nothing.
+-- How long the lines are: a message takes at most 132 bytes, a refusal 45, a card 68. Assumes nothing.
 use Prim.Native.Nat.{ℕ, zero, suc, _+_, _*_, _≤_}
 use mathlib.Core.Path.{_≡_, refl}
 use mathlib.Core.Bool.{Bool, true, false}
-use mathlib.Core.List.{List, [], _∷_, _++_, map, append-nil}
+use mathlib.Core.List.{List, [], _∷_, _++_, map}
 use lib.Dec.{eqb}
 use lib.ListN.{length, take, drop, length-append}
 use native.Mathlib.Omega.{arith}
 use Rattle.text.specs.Text.{joined}
-use Rattle.text.specs.Page.{page, withText, putText}
 use Rattle.text.proofs.Lines.{line-short}
-use Rattle.text.proofs.Put.{put-room}
 use Rattle.question.specs.Question.{Answer, given, refused}
 use Rattle.record.specs.Kind.{reply}
 use Rattle.record.specs.Record.{readMessage}
@@ -18,9 +15,7 @@ use Rattle.record.specs.declared.message.Message.{Message}
 use Rattle.rules.specs.Batch.{valueOf}
 use Rattle.rules.specs.Replica.{State}
 use Rattle.rules.specs.Run.{accepted, messagesIn}
-use Rattle.playback.specs.Lines.{replyWord, haltWord, noWord, cardWord, firstFour, messageLine, refusalLine, answerLines, cardLine}
-
--- ── how long the lines are ──
+use Rattle.playback.specs.Lines.{replyWord, haltWord, noWord, cardWord, firstFour, messageLine, refusalLine, cardLine}
 
 message-short : (m : Message) → length (messageLine m) ≤ 132
 message-short m = kind (eqb (m .kind) reply) refl where
@@ -44,34 +39,8 @@ messages-short k n (suc count) sent =
 pub refusal-short : (place number : ℕ) → length (refusalLine place number) ≤ 45
 refusal-short place number = omega (arith, line-short noWord (place ∷ number ∷ []))
 
--- ── so they always find room ──
-
-pub sent-fits : (k n place count : ℕ) (sent text : List ℕ) (used : ℕ) → count ≤ 67 → used + 8844 ≤ length text →
-    let lines = joined (answerLines k n place (given count) sent) in
-    putText (page text used) lines ≡ withText (page text used) lines
-sent-fits k n place count sent text used few free =
-    put-room (page text used) (joined (answerLines k n place (given count) sent)) (omega (arith, messages-short k n count sent))
-
-pub refusal-fits : (place number : ℕ) (text : List ℕ) (used : ℕ) → used + 45 ≤ length text →
-    putText (page text used) (refusalLine place number) ≡ withText (page text used) (refusalLine place number)
-refusal-fits place number text used free =
-    put-room (page text used) (refusalLine place number) (omega (arith, refusal-short place number))
-
--- and where it is a record's answer
-pub refused-fits : (k n place number : ℕ) (sent text : List ℕ) (used : ℕ) → used + 45 ≤ length text →
-    let lines = joined (answerLines k n place (refused number) sent) in
-    putText (page text used) lines ≡ withText (page text used) lines
-refused-fits k n place number sent text used free = rw (append-nil (refusalLine place number)) (refusal-fits place number text used free)
-
 pub cards-short : (replicas : List State) → length (joined (map cardLine replicas)) ≤ 68 * length replicas
 cards-short [] = omega arith
 cards-short (s ∷ replicas) =
     let numbers = s .number ∷ valueOf 0 (s .store) ∷ s .store .writes ∷ [] in
     omega (arith, length-append (cardLine s) (joined (map cardLine replicas)), line-short cardWord numbers, cards-short replicas)
-
--- of the seven replicas of the largest unit
-pub cards-fit : (replicas : List State) (text : List ℕ) (used : ℕ) → length replicas ≤ 7 → used + 8844 ≤ length text →
-    let lines = joined (map cardLine replicas) in
-    putText (page text used) lines ≡ withText (page text used) lines
-cards-fit replicas text used few free =
-    put-room (page text used) (joined (map cardLine replicas)) (omega (arith, cards-short replicas))

@@ -1,8 +1,11 @@
-use mathlib.Core.Path.{sym, _∙_}
+use mathlib.Core.Path.{sym, ap, _∙_}
+use mathlib.Core.List.{map}
 use borrow.Author.Tests.{le-leb, lt-leb}
 use borrow.Author.Needs.{needs}
-use Rattle.text.specs.Page.{page}
+use Rattle.text.specs.Text.{joined}
+use Rattle.text.specs.Page.{Page, page, putText}
 use Rattle.text.proofs.Put.{put-nothing, put-put}
+use Rattle.playback.specs.Lines.{cardLine}
 use Rattle.playback.specs.Arrays.{replicaAt, unitOf}
 use Rattle.playback.proofs.Cuts.{stopped-end}
 use Rattle.playback.proofs.Cards.{end-fresh, end-playing}
@@ -65,7 +68,7 @@ returns-3 c =
     let u = told .stage .given .0 .0 in
     λ arrays e f.
     rw (told .stage .given .1, le-leb (u .k) 3 (small .if1 .left), ← end-playing u (told .stage .given .0 .1 .0) (unitOf u (replicaAt u arrays)) (a .rest .now))
-    ((rw (put .put-part2 .ensures) at (done .put-cards .ensures u arrays e f)) ∙ put-put (page (a .text .now) 0) _ _)
+    (done .put-cards .ensures u arrays e f ∙ (ap (λ (p : Page). putText p (joined (map cardLine (unitOf u (replicaAt u arrays))))) (put .put-part2 .ensures) ∙ put-put (page (a .text .now) 0) _ _))
 
 returns-4 : tie.Need-returns-4
 returns-4 c =
