@@ -1,6 +1,7 @@
 //! Between the structs of the C interface and those of the model.
 
 use crate::ffi;
+use crate::model::journal::Player;
 use crate::model::record::{MessageFields, RequestFields};
 use crate::model::replica::{Pending, Replica};
 use crate::model::vote::Query;
@@ -158,4 +159,18 @@ pub fn from_replica(replica: &ffi::Replica) -> Option<Replica> {
     model.writes = replica.writes;
     let in_time = model.pending().all(|waiting| waiting.arrival <= model.last);
     in_time.then_some(model)
+}
+
+/// What goes by value of the model's player; without a unit the settings are zeros.
+pub fn to_player(model: &Player) -> ffi::Player {
+    match &model.unit {
+        Some(unit) => {
+            let settings = to_settings(&unit.replicas[0]);
+            ffi::Player { stage: 1, settings, place: model.place() }
+        }
+        None => {
+            let stage = if model.stopped() { 2 } else { 0 };
+            ffi::Player { stage, settings: ffi::Settings::default(), place: 0 }
+        }
+    }
 }

@@ -24,6 +24,8 @@ fn header_is_c_with_the_same_structs() {
         ("failstop_replica_result", size_of::<ffi::ReplicaResult>()),
         ("failstop_step_result", size_of::<ffi::StepResult>()),
         ("failstop_value_result", size_of::<ffi::ValueResult>()),
+        ("failstop_player", size_of::<ffi::Player>()),
+        ("failstop_block_result", size_of::<ffi::BlockResult>()),
     ];
     let asserts: String = sizes
         .iter()

@@ -81,6 +81,19 @@ typedef struct { uint8_t refusal; failstop_replica replica; } failstop_replica_r
 typedef struct { uint8_t refusal; size_t count; failstop_replica replica; } failstop_step_result;
 typedef struct { uint8_t refusal; uint64_t value; } failstop_value_result;
 
+/* Beside the arrays of a unit whose journal is played in blocks. By value, as the replica. A new one is all zeros. */
+typedef struct {
+    /* 0: before the first record. 1: set up. 2: the first record was refused; any other number counts as 2. */
+    uint8_t stage;
+    /* In stage 1 what the unit is set up with, and the place of the next record; a unit of a k past 3 counts as
+       stopped. In the other stages they are not looked at, and a call gives zeros. */
+    failstop_settings settings;
+    uint64_t place;
+} failstop_player;
+
+/* The first `taken` bytes of the block were played, and the text's first `used` bytes are their lines. */
+typedef struct { failstop_player player; size_t taken; size_t used; } failstop_block_result;
+
 #ifdef __cplusplus
 extern "C" {
 #endif
@@ -107,6 +120,26 @@ failstop_value_result failstop_vote(
     uint8_t k, uint8_t n, failstop_query q, failstop_list list);
 failstop_value_result failstop_count_halts(
     uint8_t k, uint8_t n, uint8_t group, uint8_t process, failstop_list list);
+
+/* Journals in blocks. The arrays hold seven replicas side by side, replica 1's part first; those of a unit are the
+   first 2k + 1. Of each there are 64 rows, as the places of failstop_replica, four counts, 256 variables, the number
+   of writes, and the last local time. A row is four words: the timestamp, the arrival, kind + 256 * group +
+   65,536 * process + 16,777,216 * variable, and the value. A setup clears what it needs of the arrays, so they may
+   hold anything before it.
+
+   Plays the whole 40-byte records of a block, one after another, until they are used up, fewer than 8,844 bytes of
+   the text are free, the unit has stopped, or the place is 2^64 - 1. The rest of the text stays as it was. What was
+   not taken is lent again, with what follows it. */
+failstop_block_result failstop_play_block(
+    failstop_player p, const uint8_t *block, size_t length, uint64_t pending[448][4], size_t counts[28],
+    uint32_t variables[1792], uint64_t writes[7], uint64_t lasts[7], uint8_t *text, size_t room);
+
+/* The end of the input: what is left of it, whatever its length unless it is 0, is refused as a record with 18, and
+   each replica has a line; a unit that has stopped prints nothing. Gives how many bytes of the text are used; a text
+   that is too short holds the start, and 521 bytes are always enough. */
+size_t failstop_play_end(
+    failstop_player p, const uint8_t *rest, size_t length, const uint32_t variables[1792], const uint64_t writes[7],
+    uint8_t *text, size_t room);
 
 #ifdef __cplusplus
 }

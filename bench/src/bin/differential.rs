@@ -9,7 +9,8 @@ use std::time::Instant;
 
 use bench::difference::Difference;
 use bench::differential::tally::Tally;
-use bench::differential::{journals, malformed, records, runs, votes, Outcome};
+use bench::differential::Outcome;
+use bench::differential::{blocks, journals, malformed, malformed_units, records, runs, votes};
 use bench::program::{end, Arguments};
 use bench::random::Random;
 
@@ -55,6 +56,8 @@ fn one(run: u64, journal: Option<&Path>, random: &mut Random, tally: &mut Tally)
         1 | 2 => malformed::run(random, tally),
         3..=30 => records::run(random, tally),
         31..=58 => votes::run(random, tally),
+        59..=61 => blocks::run(random, tally),
+        62 => malformed_units::run(random, tally),
         _ => runs::run(random, tally),
     }
 }

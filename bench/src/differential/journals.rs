@@ -30,23 +30,25 @@ pub fn wanted() -> bool {
 /// One journal, fed in odd pieces.
 pub fn run(program: &Path, random: &mut Random, tally: &mut Tally) -> Outcome {
     tally.event(Event::JournalRun);
-    let journal = some_journal(random, tally);
+    let (journal, sort) = some_journal(random);
+    tally.event(sort);
     if journal.len() > 1 << 16 {
         tally.event(Event::JournalLong);
     }
     let expected = play_bytes(&journal);
-    note_refusals(&expected, tally);
+    note_refusals(Call::Journal, &expected, tally);
     let input = || describe(&journal);
     let (text, status) = play_outside(program, &journal, random).map_err(|error| Difference {
         what: format!("{} cannot be used: {error}", program.display()),
         input: input(),
     })?;
     same("ended by itself", true, status.code().is_some(), input)?;
-    same_text(&as_text(&expected), &as_text(&text), input)
+    same_text(&expected, &text, input)
 }
 
 /// Compares texts and names the first line in which they differ.
-fn same_text(expected: &str, found: &str, input: impl Fn() -> String) -> Outcome {
+pub fn same_text(expected: &[u8], found: &[u8], input: impl Fn() -> String) -> Outcome {
+    let (expected, found) = (as_text(expected), as_text(found));
     let (mut expected_lines, mut found_lines) = (expected.lines(), found.lines());
     for number in 1.. {
         let lines = (expected_lines.next(), found_lines.next());
@@ -63,16 +65,16 @@ fn as_text(bytes: &[u8]) -> String {
 }
 
 /// The records of a journal, one on a line.
-fn describe(journal: &[u8]) -> String {
+pub fn describe(journal: &[u8]) -> String {
     let lines: Vec<String> = journal.chunks(ENTRY_SIZE).map(|part| format!("{part:?}")).collect();
     format!("journal of {} bytes\n{}", journal.len(), lines.join("\n"))
 }
 
-/// Counts the refusals that the text tells.
-fn note_refusals(text: &[u8], tally: &mut Tally) {
+/// Counts the refusals that the text tells as answers of a call.
+pub fn note_refusals(call: Call, text: &[u8], tally: &mut Tally) {
     for line in as_text(text).lines().filter(|line| line.starts_with("no ")) {
         if let Some(number) = line.rsplit(' ').next().and_then(|word| word.parse().ok()) {
-            tally.answer(Call::Journal, number);
+            tally.answer(call, number);
         }
     }
 }
@@ -128,20 +130,17 @@ fn some_pieces(mut length: usize, random: &mut Random) -> Vec<usize> {
     pieces
 }
 
-/// A journal: valid, spoiled, cut off, or noise.
-fn some_journal(random: &mut Random, tally: &mut Tally) -> Vec<u8> {
+/// A journal: valid, spoiled, cut off, or noise; and the event that tells which.
+pub fn some_journal(random: &mut Random) -> (Vec<u8>, Event) {
     if random.chance(1, 12) {
-        tally.event(Event::JournalNoise);
-        return noise(random);
+        return (noise(random), Event::JournalNoise);
     }
     let mut journal = some_records(random);
     if random.chance(1, 6) {
-        tally.event(Event::JournalCut);
         journal.truncate(random.index(journal.len() + 1));
-    } else {
-        tally.event(Event::JournalWhole);
+        return (journal, Event::JournalCut);
     }
-    journal
+    (journal, Event::JournalWhole)
 }
 
 /// Random bytes, in half of the cases after a setup.
@@ -180,7 +179,7 @@ impl Clocks {
 }
 
 /// A setup and the records of a unit, some of them spoiled.
-fn some_records(random: &mut Random) -> Vec<u8> {
+pub fn some_records(random: &mut Random) -> Vec<u8> {
     let cast = Cast::random(random);
     let delta = random.pick(&[0, 1, 5, 5, 40, DELTA_LIMIT]);
     let spoiling = random.pick(&[0, 0, 30, 200]);
@@ -253,13 +252,14 @@ fn steps_of_all(cast: Cast, clocks: &mut Clocks, random: &mut Random) -> Vec<u8>
 fn spoil(cast: Cast, records: &mut [u8], random: &mut Random) {
     let start = random.index(records.len() / ENTRY_SIZE) * ENTRY_SIZE;
     let record = &mut records[start..start + ENTRY_SIZE];
-    match random.below(7) {
+    match random.below(8) {
         0 => record[0] = random.pick(&[0, 1, 4, 255]),
         1 => record[1] = random.pick(&[0, cast.replicas() + 1, 255]),
         2 => record[2 + random.index(6)] = 1,
         3 => record[16 + random.index(6)] = random.pick(&[0, 5, 255]),
         4 => damage(&mut record[16..], random),
         5 => damage(&mut record[8..16], random),
+        6 => record.copy_from_slice(&setup_entry(cast.k, cast.groups, cast.owner, 5)),
         _ => damage(record, random),
     }
 }

@@ -1,9 +1,11 @@
 //! Drives the verified implementation and the model with the same generated
 //! inputs and compares all that the rules settle.
 
+pub mod blocks;
 pub mod journals;
 pub mod lent;
 pub mod malformed;
+pub mod malformed_units;
 pub mod pair;
 pub mod records;
 pub mod runs;

@@ -14,12 +14,13 @@ pub enum Call {
     Step,
     Vote,
     CountHalts,
+    Play,
     Journal,
 }
 
 /// For each call its name and the answers that must occur, 0 for work done.
 /// They are all that document 01 allows for well-formed replicas.
-const CALLS: [(Call, &str, &[u8]); 10] = [
+const CALLS: [(Call, &str, &[u8]); 11] = [
     (Call::ReadRequest, "read request", &[0, 1, 2, 6, 7, 8, 9, 10, 11]),
     (Call::ReadMessage, "read message", &[0, 1, 2, 5, 6, 7, 8, 9, 10, 11]),
     (Call::WriteRequest, "write request", &[0, 1, 2, 7, 8, 9, 10, 11, 15]),
@@ -29,8 +30,12 @@ const CALLS: [(Call, &str, &[u8]); 10] = [
     (Call::Step, "step", &[0, 12, 13, 15]),
     (Call::Vote, "vote", &[0, 1, 2, 16, 17]),
     (Call::CountHalts, "count halts", &[0, 1, 2, 16]),
-    (Call::Journal, "journal", &[1, 2, 3, 4, 5, 7, 8, 9, 10, 11, 12, 13, 14, 18, 19, 20]),
+    (Call::Play, "play in blocks", &JOURNAL_ANSWERS),
+    (Call::Journal, "journal", &JOURNAL_ANSWERS),
 ];
+
+/// What records of a journal are refused with.
+const JOURNAL_ANSWERS: [u8; 16] = [1, 2, 3, 4, 5, 7, 8, 9, 10, 11, 12, 13, 14, 18, 19, 20];
 
 /// Refusal numbers go up to 20.
 const ANSWERS: usize = 21;
@@ -42,6 +47,8 @@ pub enum Event {
     ReplicaRun,
     MalformedRun,
     VoteRun,
+    BlockRun,
+    MalformedUnitRun,
     JournalRun,
     K0,
     K1,
@@ -84,6 +91,21 @@ pub enum Event {
     NoGroups,
     TooManyGroups,
     ForeignRequest,
+    BlockRecord,
+    BlockWithoutBytes,
+    BlockWithoutRoom,
+    BlockLeft,
+    BlockAfterStop,
+    StoppedUnit,
+    PartialLast,
+    RecordLeft,
+    EmptyInput,
+    ShortEnd,
+    LastPlace,
+    MalformedUnitCall,
+    MalformedAtLastPlace,
+    MalformedStage,
+    MalformedK,
     JournalWhole,
     JournalCut,
     JournalNoise,
@@ -91,11 +113,13 @@ pub enum Event {
 }
 
 /// For each event its name; each must occur.
-const EVENTS: [(Event, &str); 50] = [
+const EVENTS: [(Event, &str); 67] = [
     (Event::RecordRun, "runs with records"),
     (Event::ReplicaRun, "runs with replicas"),
     (Event::MalformedRun, "runs with malformed arguments"),
     (Event::VoteRun, "runs with votes"),
+    (Event::BlockRun, "runs with journals in blocks"),
+    (Event::MalformedUnitRun, "runs with malformed units"),
     (Event::JournalRun, "runs with journals"),
     (Event::K0, "replicas with k = 0"),
     (Event::K1, "replicas with k = 1"),
@@ -138,6 +162,21 @@ const EVENTS: [(Event, &str); 50] = [
     (Event::NoGroups, "calls with a replica of no groups"),
     (Event::TooManyGroups, "calls with a replica of more than four groups"),
     (Event::ForeignRequest, "requests that stood in the queue of another group"),
+    (Event::BlockRecord, "records played in blocks"),
+    (Event::BlockWithoutBytes, "blocks of which nothing was taken for want of bytes"),
+    (Event::BlockWithoutRoom, "blocks of which nothing was taken for want of room"),
+    (Event::BlockLeft, "blocks of which some records were taken, and others not for want of room"),
+    (Event::BlockAfterStop, "blocks lent to a unit that had stopped"),
+    (Event::StoppedUnit, "units that stopped"),
+    (Event::PartialLast, "partial last records"),
+    (Event::RecordLeft, "ends with whole records left"),
+    (Event::EmptyInput, "empty inputs"),
+    (Event::ShortEnd, "ends with less room than text"),
+    (Event::LastPlace, "blocks that ended at the last place"),
+    (Event::MalformedUnitCall, "calls with malformed units"),
+    (Event::MalformedAtLastPlace, "blocks lent to a malformed unit at the last place"),
+    (Event::MalformedStage, "blocks lent to a unit in a stage past 2"),
+    (Event::MalformedK, "blocks lent to a unit of a k past 3"),
     (Event::JournalWhole, "journals of whole records"),
     (Event::JournalCut, "journals cut off"),
     (Event::JournalNoise, "journals of random bytes"),

@@ -1,13 +1,16 @@
 //! The journal program: 40-byte records in, text out.
 
-use std::io::{self, BufRead, BufReader, Read, Write};
+use std::io::{self, BufReader, Read, Write};
 
 use super::record::{Content, Message};
 use super::replica::Replica;
-use super::{ask, LocalTime, Refusal, Settings, OUTPUT_SIZE, RECORD_SIZE};
+use super::{ask, LocalTime, Refusal, Settings, FAILED, OUTPUT_SIZE, RECORD_SIZE};
 
 /// The bytes of one record of a journal.
 pub const ENTRY_SIZE: usize = 40;
+
+/// Why reading and writing in memory does not fail.
+pub(super) const MEMORY: &str = "memory neither fails to read nor to write";
 
 /// First byte of the record that sets the unit up.
 pub const SETUP: u8 = 1;
@@ -18,9 +21,14 @@ pub const STEP: u8 = 3;
 
 /// One record of a journal.
 #[derive(Clone, Copy)]
-struct Entry([u8; ENTRY_SIZE]);
+struct Entry<'a>(&'a [u8; ENTRY_SIZE]);
 
-impl Entry {
+impl Entry<'_> {
+    /// Question 18.
+    fn read(record: &[u8]) -> Result<Entry<'_>, Refusal> {
+        record.try_into().map(Entry).map_err(|_| Refusal::PartialRecord)
+    }
+
     fn kind(&self) -> u8 {
         self.0[0]
     }
@@ -43,14 +51,19 @@ impl Entry {
 }
 
 /// The replicas of a unit while its journal is played.
-struct Unit {
-    replicas: Vec<Replica>,
+#[derive(Clone)]
+pub struct Unit {
+    pub replicas: Vec<Replica>,
     output: [u8; OUTPUT_SIZE],
 }
 
 impl Unit {
+    pub fn new(replicas: Vec<Replica>) -> Unit {
+        Unit { replicas, output: [0; OUTPUT_SIZE] }
+    }
+
     /// Questions 19, 5, 20 and those of making a replica.
-    fn set_up(entry: &Entry) -> Result<Unit, Refusal> {
+    fn set_up(entry: Entry) -> Result<Unit, Refusal> {
         ask(entry.kind() == SETUP, Refusal::RecordOrder)?;
         ask(entry.replica() == 0, Refusal::Replica)?;
         ask(entry.is_zero(2, 8) && entry.is_zero(19, ENTRY_SIZE), Refusal::JournalZero)?;
@@ -58,8 +71,7 @@ impl Unit {
         let make = |number| Replica::make(k, groups, owner, entry.number(), number);
         let first = make(1)?;
         let last = first.settings.replicas();
-        let replicas = (1..=last).map(make).collect::<Result<_, _>>()?;
-        Ok(Unit { replicas, output: [0; OUTPUT_SIZE] })
+        (1..=last).map(make).collect::<Result<_, _>>().map(Unit::new)
     }
 
     fn settings(&self) -> Settings {
@@ -68,7 +80,7 @@ impl Unit {
 
     /// Plays one record after the first and gives the number of messages that
     /// then stand in the output.
-    fn play(&mut self, entry: &Entry) -> Result<usize, Refusal> {
+    fn play(&mut self, entry: Entry) -> Result<usize, Refusal> {
         let step = match entry.kind() {
             DELIVERY => false,
             STEP => true,
@@ -96,8 +108,8 @@ impl Unit {
 
     fn print_replicas<W: Write>(&self, text: &mut W) -> io::Result<()> {
         for replica in &self.replicas {
-            let failed = u8::from(replica.failed());
-            writeln!(text, "card {} {} {}", replica.number, failed, replica.writes)?;
+            let mark = replica.variables[FAILED];
+            writeln!(text, "card {} {mark} {}", replica.number, replica.writes)?;
         }
         Ok(())
     }
@@ -114,57 +126,80 @@ fn print_message<W: Write>(message: &Message, text: &mut W) -> io::Result<()> {
     }
 }
 
-fn print_refusal<W: Write>(place: u64, refusal: Refusal, text: &mut W) -> io::Result<()> {
-    writeln!(text, "no {} {}", place, refusal.number())
+/// A journal while it is played, record after record.
+#[derive(Clone, Default)]
+pub struct Player {
+    /// None before the setup, and where that was refused.
+    pub unit: Option<Unit>,
+    /// How many records were played.
+    pub played: u64,
 }
 
-/// The next record: none at the end of the input, refusal 18 for a part of one.
-fn next_entry<R: Read>(input: &mut R) -> io::Result<Option<Result<Entry, Refusal>>> {
-    let mut entry = [0; ENTRY_SIZE];
+impl Player {
+    /// Whether the first record was refused: then no other is played.
+    pub fn stopped(&self) -> bool {
+        self.unit.is_none() && self.played > 0
+    }
+
+    /// Plays the next record; a part of one is refused.
+    pub fn play<W: Write>(&mut self, record: &[u8], text: &mut W) -> io::Result<()> {
+        self.played = self.place();
+        match (self.answer(record), &self.unit) {
+            (Ok(count), Some(unit)) => unit.print_messages(count, text),
+            (Ok(_), None) => Ok(()),
+            (Err(refusal), _) => writeln!(text, "no {} {}", self.played, refusal.number()),
+        }
+    }
+
+    /// How many messages then stand in the output.
+    fn answer(&mut self, record: &[u8]) -> Result<usize, Refusal> {
+        let entry = Entry::read(record)?;
+        if let Some(unit) = &mut self.unit {
+            return unit.play(entry);
+        }
+        self.unit = Some(Unit::set_up(entry)?);
+        Ok(0)
+    }
+
+    /// A line for each replica, if there is a unit.
+    pub fn print_replicas<W: Write>(&self, text: &mut W) -> io::Result<()> {
+        self.unit.iter().try_for_each(|unit| unit.print_replicas(text))
+    }
+}
+
+/// Reads the next record; how much of it there is.
+fn read_record<R: Read>(input: &mut R, record: &mut [u8; ENTRY_SIZE]) -> io::Result<usize> {
     let mut length = 0;
     while length < ENTRY_SIZE {
-        match input.read(&mut entry[length..]) {
+        match input.read(&mut record[length..]) {
             Ok(0) => break,
             Ok(read) => length += read,
             Err(error) if error.kind() == io::ErrorKind::Interrupted => {}
             Err(error) => return Err(error),
         }
     }
-    Ok(match length {
-        0 => None,
-        ENTRY_SIZE => Some(Ok(Entry(entry))),
-        _ => Some(Err(Refusal::PartialRecord)),
-    })
+    Ok(length)
 }
 
 /// Plays a whole journal.
 pub fn play<R: Read, W: Write>(input: R, mut text: W) -> io::Result<()> {
     let mut input = BufReader::with_capacity(1 << 16, input);
-    let Some(first) = next_entry(&mut input)? else { return Ok(()) };
-    let mut unit = match first.and_then(|entry| Unit::set_up(&entry)) {
-        Ok(unit) => unit,
-        Err(refusal) => return print_refusal(1, refusal, &mut text),
-    };
-    play_rest(&mut unit, &mut input, &mut text)?;
-    unit.print_replicas(&mut text)
-}
-
-fn play_rest<R: BufRead, W: Write>(unit: &mut Unit, input: &mut R, text: &mut W) -> io::Result<()> {
-    let mut place = 1;
-    while let Some(entry) = next_entry(input)? {
-        place += 1;
-        match entry.and_then(|entry| unit.play(&entry)) {
-            Ok(count) => unit.print_messages(count, text)?,
-            Err(refusal) => print_refusal(place, refusal, text)?,
+    let mut player = Player::default();
+    let mut record = [0; ENTRY_SIZE];
+    while !player.stopped() {
+        let length = read_record(&mut input, &mut record)?;
+        if length == 0 {
+            break;
         }
+        player.play(&record[..length], &mut text)?;
     }
-    Ok(())
+    player.print_replicas(&mut text)
 }
 
 /// Plays a journal that stands in memory.
 pub fn play_bytes(bytes: &[u8]) -> Vec<u8> {
     let mut text = Vec::new();
-    play(bytes, &mut text).expect("memory neither fails to read nor to write");
+    play(bytes, &mut text).expect(MEMORY);
     text
 }
 

@@ -5,6 +5,7 @@
 //! local time = reading, step = turn, queue = shelf of a group, pending = on a
 //! shelf, batch = head, stable = ripe, failed = frozen.
 
+pub mod blocks;
 pub mod by_value;
 pub mod drill;
 pub mod journal;

@@ -62,6 +62,23 @@ pub enum Mutant {
     HaltsNotReplicas,
     HaltsOfAnyProcess,
     HaltValueIgnored,
+    ReplicaPutBackElsewhere,
+    PlacesFromZero,
+    ReplicasBeforeLastRecord,
+    SecondSetupAccepted,
+    StoppedGoesOn,
+    TextCut,
+    LastOfBlockTwice,
+    PartOfBlockPlayed,
+    WritesNotCleared,
+    RoomOfOneLess,
+    PlaceBeforeLastRefused,
+    TextBehindCleared,
+    CutOffCounted,
+    RecordLeftPlayed,
+    SettingsKept,
+    StageSetUp,
+    AnyK,
 }
 
 /// Whether the units of `simulation` and the pairs of `isolation` show a mutant.
@@ -77,7 +94,7 @@ const PAIRS: Shown = Shown { in_simulation: false, in_isolation: true };
 const BOTH: Shown = Shown { in_simulation: true, in_isolation: true };
 
 /// For each mutant its bug, and where it shows.
-pub const MUTANTS: [(Mutant, &str, Shown); 57] = [
+pub const MUTANTS: [(Mutant, &str, Shown); 74] = [
     (Mutant::StableAtEquality, "a batch is stable exactly delta after its first arrival", UNITS),
     (Mutant::LatestArrival, "stability counts from the latest arrival", NEITHER),
     (Mutant::UnstableSkipped, "an unstable batch is skipped to serve a later timestamp", UNITS),
@@ -135,6 +152,27 @@ pub const MUTANTS: [(Mutant, &str, Shown); 57] = [
     (Mutant::HaltsNotReplicas, "the halt count counts halts, not replicas", UNITS),
     (Mutant::HaltsOfAnyProcess, "the halt count takes halts to any process", UNITS),
     (Mutant::HaltValueIgnored, "the halt count takes halts with a value", NEITHER),
+    (Mutant::ReplicaPutBackElsewhere, "a replica is put back in the place of the next", NEITHER),
+    (Mutant::PlacesFromZero, "the places of a journal in blocks count from 0", NEITHER),
+    (
+        Mutant::ReplicasBeforeLastRecord,
+        "the replicas' lines stand before the last record's",
+        NEITHER,
+    ),
+    (Mutant::SecondSetupAccepted, "a second setup is accepted", NEITHER),
+    (Mutant::StoppedGoesOn, "records after a refused first one are played", NEITHER),
+    (Mutant::TextCut, "where room is short, the text is cut within a line", NEITHER),
+    (Mutant::LastOfBlockTwice, "the last record of a block is played twice", NEITHER),
+    (Mutant::PartOfBlockPlayed, "a part of a record at the end of a block is refused", NEITHER),
+    (Mutant::WritesNotCleared, "a setup does not clear the number of writes", NEITHER),
+    (Mutant::RoomOfOneLess, "a record is played with 8,843 bytes free", NEITHER),
+    (Mutant::PlaceBeforeLastRefused, "at the place before the last one nothing is played", NEITHER),
+    (Mutant::TextBehindCleared, "the text behind the lines of a block is cleared", NEITHER),
+    (Mutant::CutOffCounted, "at the end also what was cut off is counted", NEITHER),
+    (Mutant::RecordLeftPlayed, "a record that is left at the end is played", NEITHER),
+    (Mutant::SettingsKept, "a unit that stopped keeps its settings", NEITHER),
+    (Mutant::StageSetUp, "a stage past 2 counts as set up", NEITHER),
+    (Mutant::AnyK, "a unit of a k past 3 takes records", NEITHER),
 ];
 
 /// The mutant chosen by MUTANT, if there is one.

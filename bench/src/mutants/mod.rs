@@ -2,6 +2,8 @@
 //! mutant with one small bug. The variable MUTANT says which it is; without it
 //! there is no bug.
 
+mod arrays;
+mod blocks;
 mod guests;
 pub mod journal;
 pub mod list;

@@ -4,7 +4,8 @@
 
 use std::slice::{from_raw_parts, from_raw_parts_mut};
 
-use super::{records, replicas, steps, votes};
+use super::arrays::Arrays;
+use super::{blocks, records, replicas, steps, votes};
 use crate::convert::{from_replica, to_replica};
 use crate::ffi;
 use crate::model::record::MessageFields;
@@ -128,6 +129,38 @@ extern "C" fn failstop_count_halts(
     let result = votes::count_halts(k, n, group, process, messages(&list));
     let value = result.map_or(0, |count| count as u64);
     ffi::ValueResult { refusal: number_of(&result), value }
+}
+
+#[no_mangle]
+unsafe extern "C" fn failstop_play_block(
+    p: ffi::Player,
+    block: *const u8,
+    length: usize,
+    pending: &mut [[u64; 4]; ffi::PLACES],
+    counts: &mut [usize; ffi::COUNTS],
+    variables: &mut [u32; ffi::VARIABLES],
+    writes: &mut [u64; ffi::REPLICAS],
+    lasts: &mut [u64; ffi::REPLICAS],
+    text: *mut u8,
+    room: usize,
+) -> ffi::BlockResult {
+    let arrays = Arrays { pending, counts, variables, writes, lasts };
+    let (block, text) = (from_raw_parts(block, length), from_raw_parts_mut(text, room));
+    blocks::play_block(p, block, arrays, text)
+}
+
+#[no_mangle]
+unsafe extern "C" fn failstop_play_end(
+    p: ffi::Player,
+    rest: *const u8,
+    length: usize,
+    variables: &[u32; ffi::VARIABLES],
+    writes: &[u64; ffi::REPLICAS],
+    text: *mut u8,
+    room: usize,
+) -> usize {
+    let (rest, text) = (from_raw_parts(rest, length), from_raw_parts_mut(text, room));
+    blocks::play_end(p, rest, variables, writes, text)
 }
 
 /// The messages of a list, of one that is too long as many as there are.

@@ -2,7 +2,8 @@
 // refusal is a number beside what is given, 0 where nothing is refused; specs/Result.antt says so
 // for each result.
 //
-// Read on in this order: `records`, `replicas`, `votes`.
+// Read on in this order: `records`, `replicas`, `votes`, `units`.
 mod records;
 mod replicas;
+mod units;
 mod votes;

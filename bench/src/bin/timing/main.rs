@@ -1,18 +1,15 @@
 //! Benchmarks: the verified implementation against the model, same inputs,
 //! best of several runs.
 
+mod journal;
+
 use std::fmt;
-use std::fs::File;
 use std::hint::black_box;
-use std::io::{self, BufWriter, Write};
-use std::path::Path;
-use std::process::{Command, Stdio};
+use std::io;
 use std::time::Instant;
 
 use bench::convert::{to_list, to_replica};
-use bench::differential::journals;
 use bench::ffi;
-use bench::model::journal::{delivery_entry, play, setup_entry, step_entry};
 use bench::model::record::{self, MessageFields, Operation, Request, HALT};
 use bench::model::replica::Replica;
 use bench::model::vote::{count_halts, vote, Query};
@@ -20,8 +17,6 @@ use bench::model::{
     by_value, LocalTime, Refusal, Timestamp, GROUP_LIMIT, K_LIMIT, LIST_LIMIT, OUTPUT_SIZE,
     QUEUE_LIMIT, RECORD_SIZE,
 };
-use bench::random::Random;
-use bench::traffic::{Cast, Traffic};
 
 /// The best of so many runs counts, in each of the rounds: both sides come again
 /// and again, so that a busy moment of the machine does not fall on one of them.
@@ -31,8 +26,6 @@ const ROUNDS: usize = 20;
 const CALLS: usize = 20_000;
 /// Copies of a prepared replica, each stepped once in a run.
 const COPIES: usize = 500;
-/// Records in the benchmark of the journal.
-const JOURNAL_RECORDS: usize = 2_000_000;
 
 const K: u8 = 1;
 const GROUPS: u8 = 2;
@@ -56,7 +49,7 @@ fn main() -> io::Result<()> {
         votes(&mut table);
     }
     print!("{table}");
-    journal()
+    journal::run()
 }
 
 /// The best times of the two sides for each row.
@@ -329,101 +322,4 @@ fn halts(table: &mut Table, replies: &[MessageFields]) {
         see(&count_halts(K, GROUPS, OWNER, 1, black_box(&messages)));
     });
     table.note("halt count over 64 messages", verified, model);
-}
-
-/// A long ordinary journal through the program and through the model.
-fn journal() -> io::Result<()> {
-    if !journals::wanted() {
-        println!("the journal is skipped");
-        return Ok(());
-    }
-    let path = std::env::temp_dir().join(format!("journal-{}.bin", std::process::id()));
-    let result = write_journal(&path)
-        .and_then(|()| compare_texts(&path))
-        .and_then(|()| compare_journals(&path));
-    std::fs::remove_file(&path)?;
-    result
-}
-
-/// Both must print the same; how the replicas end tells what the journal is.
-fn compare_texts(path: &Path) -> io::Result<()> {
-    let output = Command::new(journals::program()).stdin(File::open(path)?).output()?;
-    let mut text = Vec::new();
-    play(File::open(path)?, &mut text)?;
-    if output.stdout != text {
-        return Err(io::Error::other("the journal program and the model print different texts"));
-    }
-    let text = String::from_utf8_lossy(&text);
-    let replicas: Vec<&str> = text.lines().filter(|line| line.starts_with("card")).collect();
-    let refused = text.lines().filter(|line| line.starts_with("no")).count();
-    println!(
-        "journal of {JOURNAL_RECORDS} records: {} replies, {refused} refused, at the end {}",
-        text.lines().filter(|line| line.starts_with("reply")).count(),
-        replicas.join(", ")
-    );
-    Ok(())
-}
-
-/// Each request goes to all replicas, one after the other, and every 12th
-/// record is a step of one of them, so that no queue is ever full. The place is
-/// the local time.
-fn write_journal(path: &Path) -> io::Result<()> {
-    let mut random = Random::new(1);
-    let mut traffic = Traffic::calm(Cast { k: K, groups: GROUPS, owner: OWNER }, 1);
-    let mut deliveries = std::iter::from_fn(|| Some(traffic.next(&mut random).encode()))
-        .flat_map(|request| (1..=2 * K + 1).map(move |replica| (replica, request)));
-    let mut file = BufWriter::new(File::create(path)?);
-    file.write_all(&setup_entry(K, GROUPS, OWNER, DELTA))?;
-    for place in 1..JOURNAL_RECORDS as u64 {
-        let delivery = if place % 12 == 0 { None } else { deliveries.next() };
-        let record = match delivery {
-            Some((replica, request)) => delivery_entry(replica, place, &request),
-            None => step_entry(1 + (place / 12 % 3) as u8, place),
-        };
-        file.write_all(&record)?;
-    }
-    file.flush()
-}
-
-fn compare_journals(path: &Path) -> io::Result<()> {
-    let (mut verified, mut model) = (f64::INFINITY, f64::INFINITY);
-    for _ in 0..3 {
-        verified = verified.min(seconds(|| play_outside(path))?);
-        model = model.min(seconds(|| play_model(path))?);
-    }
-    let rate = |seconds: f64| JOURNAL_RECORDS as f64 / seconds / 1e6;
-    println!(
-        "{:<50} {:>9.3} {:>9.3} {:>7.2}",
-        "journal, million records a second",
-        rate(verified),
-        rate(model),
-        rate(verified) / rate(model)
-    );
-    let mut table = Table::default();
-    let each = |seconds: f64| seconds / JOURNAL_RECORDS as f64 * 1e9;
-    table.note("journal, ns for one record", each(verified), each(model));
-    print!("{table}");
-    Ok(())
-}
-
-fn seconds(work: impl Fn() -> io::Result<()>) -> io::Result<f64> {
-    let start = Instant::now();
-    work()?;
-    Ok(start.elapsed().as_secs_f64())
-}
-
-fn play_outside(path: &Path) -> io::Result<()> {
-    let mut command = Command::new(journals::program());
-    let status = command.stdin(File::open(path)?).stdout(Stdio::null()).status()?;
-    if status.code().is_some() {
-        Ok(())
-    } else {
-        Err(io::Error::other("the journal program was ended from outside"))
-    }
-}
-
-fn play_model(path: &Path) -> io::Result<()> {
-    let mut text = BufWriter::new(File::create("/dev/null")?);
-    play(File::open(path)?, &mut text)?;
-    text.flush()
 }
