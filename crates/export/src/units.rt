@@ -2,7 +2,7 @@
 ghost use mathlib.Core.Path.{_≡_};
 ghost use lib.ListN.{length};
 ghost use Rattle.text.specs.Page.{page, putText};
-ghost use Rattle.playback.specs.Blocks.{playBlock, playEnd};
+ghost use Rattle.transcript.specs.Blocks.{playBlock, playEnd};
 ghost use Rattle.playback.specs.Arrays.{Arrays, arrays, unitIn};
 ghost use Rattle.export.specs.Stages.{stageOf, blankPlayer, playerOf};
 use limits::MAX_REPLICAS;

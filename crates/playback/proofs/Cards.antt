@@ -16,9 +16,9 @@ use Rattle.text.proofs.Put.{put-put}
 use Rattle.rules.specs.Lists.{upTo}
 use Rattle.rules.specs.declared.Settings.{Settings}
 use Rattle.rules.specs.Replica.{State}
-use Rattle.playback.specs.Lines.{cardWord, refusalLine, cardLine}
-use Rattle.playback.specs.Journal.{fresh, playing}
-use Rattle.playback.specs.Blocks.{playEnd}
+use Rattle.lines.specs.Lines.{cardWord, refusalLine, cardLine}
+use Rattle.transcript.specs.Journal.{fresh, playing}
+use Rattle.transcript.specs.Blocks.{playEnd}
 use Rattle.playback.specs.Arrays.{Arrays, replicaAt}
 use Rattle.playback.proofs.Arrays.{part-at}
 

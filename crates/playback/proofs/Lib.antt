@@ -1,13 +1,6 @@
-pub mod Whole
 pub mod Plays
-pub mod Messages
-pub mod Room
-pub mod Numbers
-pub mod Cuts
-pub mod Fits
-pub mod Instances
 pub mod Arrays
 pub mod Recorded
 pub mod Loop
-pub mod First
+pub mod New
 pub mod Cards

@@ -13,8 +13,8 @@ use Rattle.question.specs.Question.{Answer, given, refused, worked, after, verd
 use Rattle.rules.specs.declared.Settings.{Settings}
 use Rattle.rules.specs.Replica.{State, Stepped}
 use Rattle.rules.specs.Run.{messagesIn}
-use Rattle.playback.specs.Lines.{refusalLine, answerLines}
-use Rattle.playback.specs.Journal.{linesOf}
+use Rattle.lines.specs.Lines.{refusalLine, answerLines}
+use Rattle.transcript.specs.Journal.{linesOf}
 
 -- ── the request ──
 

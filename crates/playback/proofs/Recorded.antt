@@ -17,8 +17,8 @@ use Rattle.rules.specs.Replica.{State, Stepped, newState}
 use Rattle.laws.proofs.Lists.{length-upTo}
 use Rattle.laws.proofs.Queues.{fun-ext}
 use Rattle.entry.specs.Entry.{Entry, kindOf, replicaOf, entryIn, entryQuestions, readEntry}
-use Rattle.playback.specs.Play.{playEntry}
-use Rattle.playback.specs.Journal.{playing, replicaFor, linesOf, putBack, playRead}
+use Rattle.transcript.specs.Play.{playEntry}
+use Rattle.transcript.specs.Journal.{playing, replicaFor, linesOf, putBack, playRead}
 use Rattle.playback.specs.Arrays.{replaced, unitOf}
 
 module _ (replicas : ℕ → State) where

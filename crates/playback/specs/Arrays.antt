@@ -11,7 +11,7 @@ use Rattle.rules.specs.Replica.{State, newState}
 use Rattle.state.specs.State.{partAt}
 use Rattle.queue.specs.Queue.{queuesIn}
 use Rattle.step.specs.Output.{stateIn}
-use Rattle.playback.specs.Journal.{Unit, fresh, playing, stopped}
+use Rattle.transcript.specs.Journal.{Unit, fresh, playing, stopped}
 use Rattle.playback.specs.declared.stage.Stage.{Stage}
 use Rattle.playback.specs.declared.stage.Stage.the-variants.{First, Playing, Stopped}
 

@@ -7,10 +7,9 @@ ghost use lib.Dec.{leb, ltb};
 ghost use lib.ListN.{length};
 ghost use Rattle.limits.specs.Limits.{maxK, entrySize, maxPlace, maxReplicas, unitPlaces, unitQueues, unitVariables};
 ghost use Rattle.text.specs.Page.{page, putText};
-ghost use Rattle.playback.specs.Journal.{fresh, playing};
-ghost use Rattle.playback.specs.Blocks.{linesSize, playBlock};
+ghost use Rattle.transcript.specs.Journal.{fresh, playing};
+ghost use Rattle.transcript.specs.Blocks.{linesSize, playBlock};
 ghost use Rattle.playback.specs.Arrays.{arrays, replicaAt, unitOf, unitIn};
-use crate::lines::put_refusal;
 use crate::play::play_record;
 use crate::stage::Stage;
 use entry::SetupRead;
@@ -22,6 +21,7 @@ use limits::MAX_SENT;
 use limits::UNIT_PLACES;
 use limits::UNIT_QUEUES;
 use limits::UNIT_VARIABLES;
+use lines::put_refusal;
 use rules::Settings;
 
 // The most that the lines of one record take: 132 bytes for each message that a step may send.

@@ -10,16 +10,16 @@ ghost use Rattle.text.specs.Text.{joined};
 ghost use Rattle.text.specs.Page.{page, putText};
 ghost use Rattle.rules.specs.Lists.{upTo};
 ghost use Rattle.rules.specs.declared.Settings.{Settings};
-ghost use Rattle.playback.specs.Lines.{refusalLine, cardLine};
-ghost use Rattle.playback.specs.Blocks.{playEnd};
+ghost use Rattle.lines.specs.Lines.{refusalLine, cardLine};
+ghost use Rattle.transcript.specs.Blocks.{playEnd};
 ghost use Rattle.playback.specs.Arrays.{Arrays, replicaAt, unitIn};
-use crate::lines::put_card;
-use crate::lines::put_refusal;
 use crate::stage::Stage;
 use limits::MAX_K;
 use limits::MAX_REPLICAS;
 use limits::UNIT_VARIABLES;
 use limits::VARIABLES;
+use lines::put_card;
+use lines::put_refusal;
 
 // What is left is refused as a record, unless nothing is.
 fn put_part(place: u64, left: usize, text: &mut [u8]) -> usize

@@ -8,7 +8,6 @@
 mod block;
 mod end;
 mod left;
-mod lines;
 mod play;
 mod stage;
 mod unit;

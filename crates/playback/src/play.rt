@@ -4,23 +4,27 @@ ghost use mathlib.Core.List.{List};
 ghost use Prim.Native.Nat.{ℕ, _+_, _≤_};
 ghost use lib.ListN.{length, take, drop, replicate};
 ghost use Rattle.limits.specs.Limits.{maxK, recordSize, outputSize, maxReplicas, unitPlaces, unitQueues, unitVariables};
+ghost use Rattle.text.specs.Text.{joined};
 ghost use Rattle.text.specs.Page.{page, putText};
 ghost use Rattle.question.specs.Question.{mapAnswer, after};
+ghost use Rattle.step.specs.Answer.{stepAnswer};
 ghost use Rattle.entry.specs.Entry.{delivery, turn, readEntry};
-ghost use Rattle.playback.specs.Play.{playEntry};
-ghost use Rattle.playback.specs.Journal.{playing, linesOf, playRead};
+ghost use Rattle.lines.specs.Lines.{answerLines};
+ghost use Rattle.transcript.specs.Play.{playEntry};
+ghost use Rattle.transcript.specs.Journal.{playing, linesOf, playRead};
 ghost use Rattle.playback.specs.Arrays.{arrays, replicaAt, replaced, unitOf};
-use crate::lines::put_answer;
-use crate::lines::put_refusal;
 use crate::unit::deliver_to;
 use crate::unit::step_of;
 use entry::EntryRead;
 use limits::ENTRY;
 use limits::OUTPUT;
 use limits::at_most;
+use lines::put_messages;
+use lines::put_refusal;
 use question::Outcome;
 use record::LocalTime;
 use rules::Settings;
+use step::StepAnswer;
 
 // A delivery of bytes 16 to 39; a shorter record has those that it has. It prints nothing unless it is
 // refused.
@@ -47,6 +51,24 @@ fn play_delivery(
     match deliver_to(u, i, &bytes[start..end], at, pending, counts, lasts) {
         Outcome::Done => used,
         Outcome::Refused(refusal) => put_refusal(place, refusal, text, used),
+    }
+}
+
+// What a record did: the messages that it wrote to `sent`, or its refusal.
+fn put_answer(
+    k: u8,
+    groups: u8,
+    place: u64,
+    answer: StepAnswer,
+    sent: &[u8],
+    text: &mut [u8],
+    used: usize,
+) -> usize
+    ensures { λ n. ⌜ page (now (text .exit)) n ≡ putText (page (now (text .entry)) used) (joined (answerLines k groups place (stepAnswer answer) (now (sent .entry)))) ⌝ }
+{
+    match answer {
+        StepAnswer::Sent(count) => put_messages(k, groups, count, sent, text, used),
+        StepAnswer::Refused(number) => put_refusal(place, number, text, used),
     }
 }
 

@@ -9,9 +9,9 @@ use lib.ListN.{length, take, drop, length-take}
 use borrow.Author.Tests.{ltb-true}
 use borrow.Author.Needs.{needs}
 use Rattle.question.proofs.Tests.{case, both}
-use Rattle.playback.specs.Journal.{Unit}
-use Rattle.playback.specs.Blocks.{playBlock}
-use Rattle.playback.proofs.Cuts.{taken-within}
+use Rattle.transcript.specs.Journal.{Unit}
+use Rattle.transcript.specs.Blocks.{playBlock}
+use Rattle.transcript.proofs.Block.{taken-within}
 use Rattle.journal.proofs.player.play_all.Statement.{statement}
 use Rattle.journal.proofs.player.play_all.Tie as tie
 

@@ -5,9 +5,9 @@ use mathlib.Core.List.{List}
 use native.Mathlib.Omega.{arith}
 use lib.ListN.{length}
 use borrow.Author.Needs.{needs}
-use Rattle.playback.specs.Journal.{Unit}
-use Rattle.playback.specs.Blocks.{playBlock}
-use Rattle.playback.proofs.Cuts.{taken-within}
+use Rattle.transcript.specs.Journal.{Unit}
+use Rattle.transcript.specs.Blocks.{playBlock}
+use Rattle.transcript.proofs.Block.{taken-within}
 use Rattle.pieces.proofs.player.play_call.Statement.{statement}
 use Rattle.pieces.proofs.player.play_call.Tie as tie
 

@@ -5,7 +5,7 @@ use borrow.Author.Tests.{le-leb, lt-leb}
 use borrow.Author.Needs.{needs}
 use Rattle.text.specs.Page.{page}
 use Rattle.text.proofs.Put.{put-nothing}
-use Rattle.playback.proofs.Loop.{block-stopped}
+use Rattle.transcript.proofs.Block.{block-stopped}
 use Rattle.playback.proofs.block.play_block.Statement.{statement}
 use Rattle.playback.proofs.block.play_block.Tie as tie
 

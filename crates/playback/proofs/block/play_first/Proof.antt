@@ -13,15 +13,14 @@ use Rattle.limits.specs.Limits.{entrySize, maxPlace}
 use Rattle.question.specs.Question.{given, refused}
 use Rattle.question.proofs.Tests.{both}
 use Rattle.entry.specs.Entry.{readSetup, setupAnswer}
-use Rattle.playback.specs.Journal.{fresh, playing}
-use Rattle.playback.specs.Blocks.{linesSize}
+use Rattle.transcript.specs.Journal.{fresh, playing}
+use Rattle.transcript.specs.Blocks.{linesSize}
 use Rattle.playback.specs.Arrays.{replicaAt, unitOf}
 use Rattle.text.specs.Page.{page}
 use Rattle.text.proofs.Put.{put-nothing}
-use Rattle.playback.proofs.Fits.{setup-small}
-use Rattle.playback.proofs.Cuts.{taken-within}
-use Rattle.playback.proofs.Loop.{block-none}
-use Rattle.playback.proofs.First.{cleared, new-unit, first-accepted, first-refused}
+use Rattle.transcript.proofs.Fits.{setup-small}
+use Rattle.transcript.proofs.Block.{block-none, taken-within, first-accepted, first-refused}
+use Rattle.playback.proofs.New.{cleared, new-unit}
 use Rattle.playback.proofs.block.play_first.Statement.{statement}
 use Rattle.playback.proofs.block.play_first.Tie as tie
 

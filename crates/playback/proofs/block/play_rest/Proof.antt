@@ -10,8 +10,8 @@ use borrow.Author.Needs.{needs}
 use Rattle.limits.specs.Limits.{entrySize, maxPlace}
 use Rattle.text.specs.Page.{page}
 use Rattle.question.proofs.Tests.{both}
-use Rattle.playback.specs.Journal.{playing, playRecord}
-use Rattle.playback.specs.Blocks.{linesSize, playBlock}
+use Rattle.transcript.specs.Journal.{playing, playRecord}
+use Rattle.transcript.specs.Blocks.{linesSize, playBlock}
 use Rattle.playback.specs.Arrays.{arrays, replicaAt, unitOf}
 use Rattle.playback.proofs.Loop.{put-within, Left, left-next, left-over}
 use Rattle.playback.proofs.block.play_rest.Statement.{statement}

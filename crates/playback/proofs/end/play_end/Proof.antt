@@ -5,9 +5,9 @@ use borrow.Author.Needs.{needs}
 use Rattle.text.specs.Text.{joined}
 use Rattle.text.specs.Page.{Page, page, putText}
 use Rattle.text.proofs.Put.{put-nothing, put-put}
-use Rattle.playback.specs.Lines.{cardLine}
+use Rattle.lines.specs.Lines.{cardLine}
 use Rattle.playback.specs.Arrays.{replicaAt, unitOf}
-use Rattle.playback.proofs.Cuts.{stopped-end}
+use Rattle.transcript.proofs.Cuts.{stopped-end}
 use Rattle.playback.proofs.Cards.{end-fresh, end-playing}
 use Rattle.playback.proofs.end.play_end.Statement.{statement}
 use Rattle.playback.proofs.end.play_end.Tie as tie

@@ -11,7 +11,7 @@ use Rattle.text.proofs.Put.{put-nothing}
 use Rattle.question.specs.Question.{mapAnswer, after}
 use Rattle.rules.specs.Replica.{State, deliver}
 use Rattle.entry.specs.Entry.{delivery}
-use Rattle.playback.specs.Play.{playEntry}
+use Rattle.transcript.specs.Play.{playEntry}
 use Rattle.playback.specs.Arrays.{arrays, replicaAt, replaced}
 use Rattle.playback.proofs.Plays.{request-part, state-delivered, done-text, refused-text}
 use Rattle.playback.proofs.play.play_delivery.Statement.{statement}

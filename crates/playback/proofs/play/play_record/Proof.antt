@@ -9,8 +9,8 @@ use Rattle.text.specs.Page.{page, putText}
 use Rattle.question.specs.Question.{given, refused}
 use Rattle.rules.specs.Replica.{State}
 use Rattle.entry.specs.Entry.{Entry, delivery, turn, readEntry, entryAnswer}
-use Rattle.playback.specs.Lines.{refusalLine}
-use Rattle.playback.specs.Journal.{replicaFor}
+use Rattle.lines.specs.Lines.{refusalLine}
+use Rattle.transcript.specs.Journal.{replicaFor}
 use Rattle.playback.specs.Arrays.{arrays, replicaAt}
 use Rattle.playback.proofs.Recorded.{entry-there, read-unit, read-text}
 use Rattle.playback.proofs.play.play_record.Statement.{statement}

@@ -5,7 +5,7 @@ use lib.ListN.{replicate}
 use borrow.Author.Needs.{needs}
 use Rattle.limits.specs.Limits.{outputSize}
 use Rattle.rules.specs.Replica.{step}
-use Rattle.playback.specs.Play.{playEntry}
+use Rattle.transcript.specs.Play.{playEntry}
 use Rattle.playback.specs.Arrays.{arrays, replicaAt}
 use Rattle.playback.proofs.Plays.{stepped-text}
 use Rattle.playback.proofs.play.play_turn.Statement.{statement}

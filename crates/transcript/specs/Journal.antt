@@ -9,8 +9,8 @@ use Rattle.rules.specs.Lists.{upTo}
 use Rattle.rules.specs.declared.Settings.{Settings}
 use Rattle.rules.specs.Replica.{State, Stepped, newState}
 use Rattle.entry.specs.Entry.{Entry, delivery, turn, readSetup, readEntry}
-use Rattle.playback.specs.Play.{playEntry}
-use Rattle.playback.specs.Lines.{refusalLine, answerLines, cardLine}
+use Rattle.transcript.specs.Play.{playEntry}
+use Rattle.lines.specs.Lines.{refusalLine, answerLines, cardLine}
 
 -- a unit while its journal is played: before the first record; set up so, with the place of the next record and the replicas; or stopped,
 -- since its first record was refused

@@ -2,8 +2,8 @@
 use borrow.Author.Tests.{eq-eqb, ne-eqb}
 use Rattle.record.specs.Kind.{reply}
 use borrow.Author.Needs.{needs}
-use Rattle.playback.proofs.lines.put_message.Statement.{statement}
-use Rattle.playback.proofs.lines.put_message.Tie as tie
+use Rattle.lines.proofs.put_message.Statement.{statement}
+use Rattle.lines.proofs.put_message.Tie as tie
 
 numbers-of-requires : tie.Need-numbers-of-requires
 numbers-of-requires c κs = search needs

@@ -6,7 +6,7 @@ use lib.Dec.{leb, ltb}
 use lib.ListN.{length, take, drop}
 use Rattle.limits.specs.Limits.{entrySize, maxSent, maxPlace}
 use Rattle.question.specs.Question.{refused}
-use Rattle.playback.specs.Journal.{Unit, fresh, playing, stopped, Printed, playSetup, playRead, playRecord, cardLines}
+use Rattle.transcript.specs.Journal.{Unit, fresh, playing, stopped, Printed, playSetup, playRead, playRecord, cardLines}
 
 -- ── one call ──
 

@@ -7,7 +7,7 @@ use Rattle.rules.specs.Replica.{State, deliver}
 use Rattle.rules.proofs.Numbers.{deliver-numbers, step-numbers}
 use Rattle.entry.specs.Entry.{Entry, delivery, turn, entryQuestions, entryIn, readEntry}
 use Rattle.entry.specs.Numbers.{entryNumbers, callNumbers}
-use Rattle.playback.specs.Play.{playEntry, playOn}
+use Rattle.transcript.specs.Play.{playEntry, playOn}
 
 pub play-numbers : (s : State) (e : Entry) (output : List ℕ) → Listed (callNumbers e) (playEntry s e output)
 unfolding playEntry

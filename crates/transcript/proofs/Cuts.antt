@@ -16,9 +16,10 @@ use Rattle.question.proofs.Tests.{case, true-not-false}
 use Rattle.rules.specs.declared.Settings.{Settings}
 use Rattle.rules.specs.Replica.{State, Stepped}
 use Rattle.entry.specs.Entry.{readSetup, readEntry}
-use Rattle.playback.specs.Journal.{Unit, fresh, playing, stopped, playSetup, putBack, playRecord, entriesOf, playAll, journal}
-use Rattle.playback.specs.Blocks.{linesSize, wholeEntries, goesOn, Played, playRecords, playBlock, Call, playCalls, isOver, playPart, playEnd}
-use Rattle.playback.proofs.Fits.{read-puts-back}
+use Rattle.transcript.specs.Journal.{Unit, fresh, playing, stopped, playSetup, putBack, playRecord, entriesOf, playAll, journal}
+use Rattle.transcript.specs.Blocks.{linesSize, wholeEntries, goesOn, Played, playRecords, playBlock, Call, playCalls, isOver, playPart, playEnd}
+use Rattle.transcript.proofs.Fits.{read-puts-back}
+use Rattle.transcript.proofs.Block.{untouched, block-short, block-stopped, taken-within, block-takes}
 
 -- ── the records of an input ──
 
@@ -148,31 +149,6 @@ pub cut-anywhere : (calls : List Call) (input : List ℕ) →
 unfolding journal
 cut-anywhere calls input over = cut-from calls fresh input over
 
--- ── how far a call comes ──
-
--- the whole records of a block have no more bytes than it
-records-within : (most room : ℕ) (unit : Unit) (block : List ℕ) → playRecords room unit (wholeEntries most block) .taken ≤ length block
-unfolding playRecords
-records-within zero room unit block = omega arith
-records-within (suc most) room unit block =
-    let one = playRecord unit (take entrySize block) in
-    let others = records-within most (room - length (one .text)) (one .unit) (drop entrySize block) in
-    case (ltb (length block) entrySize)
-    (λ short. rw short (omega arith))
-    (λ long. case (goesOn room unit)
-    (λ on. rw (long, on) (omega (arith, others, length-drop entrySize block, ltb-false (length block) entrySize long)))
-    (λ off. rw (long, off) (omega arith)))
-
-pub taken-within : (room : ℕ) (unit : Unit) (block : List ℕ) → playBlock room unit block .taken ≤ length block
-taken-within room unit block = records-within (length block) room unit block
-
--- a call that is lent a whole record, and room for its lines, takes it
-pub block-takes : (room : ℕ) (unit : Unit) (block : List ℕ) → entrySize ≤ length block → goesOn room unit ≡ true
-    → entrySize ≤ playBlock room unit block .taken
-unfolding playRecords
-block-takes room unit [] whole on = absurd (omega arith)
-block-takes room unit (b ∷ block) whole on = rw (le-ltb (length (b ∷ block)) entrySize whole, on) (omega arith)
-
 -- ── enough calls come to the end ──
 
 -- the place of the next record; a unit that stopped has none
@@ -219,27 +195,11 @@ goes-on room (playing u place replicas) left roomy few e =
     (whole, rw (le-leb linesSize room roomy, lt-ltb place maxPlace (omega arith)))
 goes-on room stopped left roomy few e = true-not-false true refl e
 
-short-none : (most : ℕ) (block : List ℕ) → length block < entrySize → wholeEntries most block ≡ []
-short-none zero block short = refl
-short-none (suc most) block short = rw (lt-ltb (length block) entrySize short)
-
-abbrev untouched : Unit → Played
-untouched unit = record { unit = unit; taken = 0; text = [] }
-
 -- at the end a call does nothing
-stopped-still : (room : ℕ) (records : List (List ℕ)) → playRecords room stopped records ≡ untouched stopped
-unfolding playRecords
-stopped-still room [] = refl
-stopped-still room (bytes ∷ records) = refl
-
-short-still : (room : ℕ) (unit : Unit) (block : List ℕ) → length block < entrySize → playBlock room unit block ≡ untouched unit
-unfolding playRecords
-short-still room unit block short = rw (short-none (length block) block short)
-
 over-still : (room size : ℕ) (unit : Unit) (left : List ℕ) → isOver unit left ≡ true → playBlock room unit (take size left) ≡ untouched unit
 over-still room size unit left over = ⊎-elim
-    (λ (e : unit ≡ stopped). rw e (stopped-still room (wholeEntries (length (take size left)) (take size left))))
-    (λ (short : length left < entrySize). short-still room unit (take size left) (omega (arith, length-take size left)))
+    (λ (e : unit ≡ stopped). rw e (block-stopped room (take size left)))
+    (λ (short : length left < entrySize). block-short room unit (take size left) (omega (arith, length-take size left)))
     (over-cases unit left over)
 
 over-stays : (calls : List Call) (unit : Unit) (left : List ℕ) → isOver unit left ≡ true →

@@ -17,7 +17,7 @@ use Rattle.record.specs.declared.kind.Family.the-variants.{Messages}
 use Rattle.record.specs.declared.message.Message.{Message}
 use Rattle.record.proofs.Reading.{read-readable}
 use Rattle.rules.specs.Run.{accepted, messagesIn}
-use Rattle.playback.specs.Lines.{messageLine}
+use Rattle.lines.specs.Lines.{messageLine}
 
 module _ (k n : ℕ) where
   -- a part of a record is no message

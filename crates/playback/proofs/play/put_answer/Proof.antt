@@ -1,9 +1,9 @@
 -- The answer decides between the two.
 use mathlib.Core.List.{append-nil}
-use Rattle.playback.specs.Lines.{refusalLine}
+use Rattle.lines.specs.Lines.{refusalLine}
 use borrow.Author.Needs.{needs}
-use Rattle.playback.proofs.lines.put_answer.Statement.{statement}
-use Rattle.playback.proofs.lines.put_answer.Tie as tie
+use Rattle.playback.proofs.play.put_answer.Statement.{statement}
+use Rattle.playback.proofs.play.put_answer.Tie as tie
 
 enum-known-answer : tie.Need-enum-known-answer
 enum-known-answer c = search needs

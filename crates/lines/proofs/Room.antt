@@ -15,7 +15,7 @@ use Rattle.record.specs.declared.message.Message.{Message}
 use Rattle.rules.specs.Batch.{valueOf}
 use Rattle.rules.specs.Replica.{State}
 use Rattle.rules.specs.Run.{accepted, messagesIn}
-use Rattle.playback.specs.Lines.{replyWord, haltWord, noWord, cardWord, firstFour, messageLine, refusalLine, cardLine}
+use Rattle.lines.specs.Lines.{replyWord, haltWord, noWord, cardWord, firstFour, messageLine, refusalLine, cardLine}
 
 message-short : (m : Message) → length (messageLine m) ≤ 132
 message-short m = kind (eqb (m .kind) reply) refl where

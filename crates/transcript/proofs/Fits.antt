@@ -25,11 +25,11 @@ use Rattle.rules.specs.Replica.{State, Stepped, Written, written, behind, put, 
 use Rattle.laws.proofs.Lists.{length-upTo}
 use Rattle.laws.proofs.Step.{step-accepted}
 use Rattle.entry.specs.Entry.{Entry, delivery, turn, settingsIn, setupQuestions, readSetup, readEntry}
-use Rattle.playback.specs.Play.{playEntry}
-use Rattle.playback.specs.Lines.{refusalLine}
-use Rattle.playback.specs.Journal.{Unit, Printed, fresh, playing, stopped, playSetup, replicaFor, putBack, playRead, playRecord, cardLines}
-use Rattle.playback.specs.Blocks.{linesSize, wholeEntries, goesOn, playRecords, playBlock, Call, playCalls, playPart, playEnd}
-use Rattle.playback.proofs.Room.{messages-short, refusal-short, cards-short}
+use Rattle.transcript.specs.Play.{playEntry}
+use Rattle.lines.specs.Lines.{refusalLine}
+use Rattle.transcript.specs.Journal.{Unit, Printed, fresh, playing, stopped, playSetup, replicaFor, putBack, playRead, playRecord, cardLines}
+use Rattle.transcript.specs.Blocks.{linesSize, wholeEntries, goesOn, playRecords, playBlock, Call, playCalls, playPart, playEnd}
+use Rattle.lines.proofs.Room.{messages-short, refusal-short, cards-short}
 
 -- ── what a step counts ──
 

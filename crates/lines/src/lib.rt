@@ -5,13 +5,11 @@ ghost use Rattle.text.specs.Text.{joined, line};
 ghost use Rattle.text.specs.Page.{page, putText};
 ghost use Rattle.record.specs.Record.{readMessage};
 ghost use Rattle.rules.specs.Run.{accepted, messagesIn};
-ghost use Rattle.step.specs.Answer.{stepAnswer};
-ghost use Rattle.playback.specs.Lines.{cardWord, firstFour, messageLine, refusalLine, answerLines};
+ghost use Rattle.lines.specs.Lines.{cardWord, firstFour, messageLine, refusalLine};
 use limits::RECORD;
 use record::Message;
 use record::MessageRead;
 use record::REPLY;
-use step::StepAnswer;
 
 // The numbers of a reply's line; a halt's line has the first four.
 fn numbers_of(m: Message) -> [u64; 6]
@@ -48,7 +46,14 @@ fn put_record(k: u8, groups: u8, bytes: &[u8], text: &mut [u8], used: usize) -> 
 }
 
 // A line for each of the first `count` records.
-fn put_messages(k: u8, groups: u8, count: usize, sent: &[u8], text: &mut [u8], used: usize) -> usize
+pub fn put_messages(
+    k: u8,
+    groups: u8,
+    count: usize,
+    sent: &[u8],
+    text: &mut [u8],
+    used: usize,
+) -> usize
     ensures { λ n. ⌜ page (now (text .exit)) n ≡ putText (page (now (text .entry)) used) (joined (map messageLine (messagesIn k groups count (now (sent .entry))))) ⌝ }
 {
     let mut next = used;
@@ -66,25 +71,8 @@ fn put_messages(k: u8, groups: u8, count: usize, sent: &[u8], text: &mut [u8], u
     next
 }
 
-// What a record did: the messages that it wrote to `sent`, or its refusal.
-pub(crate) fn put_answer(
-    k: u8,
-    groups: u8,
-    place: u64,
-    answer: StepAnswer,
-    sent: &[u8],
-    text: &mut [u8],
-    used: usize,
-) -> usize
-    ensures { λ n. ⌜ page (now (text .exit)) n ≡ putText (page (now (text .entry)) used) (joined (answerLines k groups place (stepAnswer answer) (now (sent .entry)))) ⌝ }
-{
-    match answer {
-        StepAnswer::Sent(count) => put_messages(k, groups, count, sent, text, used),
-        StepAnswer::Refused(number) => put_refusal(place, number, text, used),
-    }
-}
-
-pub(crate) fn put_refusal(place: u64, number: u8, text: &mut [u8], used: usize) -> usize
+// The line of a record that is refused: its place, and the number.
+pub fn put_refusal(place: u64, number: u8, text: &mut [u8], used: usize) -> usize
     ensures { λ n. ⌜ page (now (text .exit)) n ≡ putText (page (now (text .entry)) used) (refusalLine place number) ⌝ }
 {
     let numbers = [place, number as u64];
@@ -92,7 +80,7 @@ pub(crate) fn put_refusal(place: u64, number: u8, text: &mut [u8], used: usize) 
 }
 
 // The number of a replica, its failed mark, and the writes performed.
-pub(crate) fn put_card(number: u64, failed: u32, writes: u64, text: &mut [u8], used: usize) -> usize
+pub fn put_card(number: u64, failed: u32, writes: u64, text: &mut [u8], used: usize) -> usize
     ensures { λ n. ⌜ page (now (text .exit)) n ≡ putText (page (now (text .entry)) used) (line cardWord (number ∷ failed ∷ writes ∷ [])) ⌝ }
 {
     let numbers = [number, failed as u64, writes];

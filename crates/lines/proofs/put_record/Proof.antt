@@ -2,10 +2,10 @@
 use mathlib.Core.Path.{sym}
 use mathlib.Core.List.{append-nil}
 use Rattle.text.proofs.Put.{put-nothing}
-use Rattle.playback.specs.Lines.{messageLine}
+use Rattle.lines.specs.Lines.{messageLine}
 use borrow.Author.Needs.{needs}
-use Rattle.playback.proofs.lines.put_record.Statement.{statement}
-use Rattle.playback.proofs.lines.put_record.Tie as tie
+use Rattle.lines.proofs.put_record.Statement.{statement}
+use Rattle.lines.proofs.put_record.Tie as tie
 
 read-message-requires : tie.Need-read-message-requires
 read-message-requires c κs = search needs

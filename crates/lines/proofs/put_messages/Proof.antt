@@ -9,11 +9,11 @@ use Rattle.text.specs.Text.{joined}
 use Rattle.text.specs.Page.{page, putText}
 use Rattle.text.proofs.Put.{put-nothing}
 use Rattle.rules.specs.Run.{messagesIn}
-use Rattle.playback.specs.Lines.{messageLine}
-use Rattle.playback.proofs.Messages.{no-messages, put-next}
+use Rattle.lines.specs.Lines.{messageLine}
+use Rattle.lines.proofs.Messages.{no-messages, put-next}
 use borrow.Author.Needs.{needs}
-use Rattle.playback.proofs.lines.put_messages.Statement.{statement}
-use Rattle.playback.proofs.lines.put_messages.Tie as tie
+use Rattle.lines.proofs.put_messages.Statement.{statement}
+use Rattle.lines.proofs.put_messages.Tie as tie
 
 abbrev Inv-loop : tie.InvT-loop
 Inv-loop k groups count sent text₀ used next₀ at₀ i₀ text next at i =

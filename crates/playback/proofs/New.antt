@@ -1,26 +1,16 @@
--- The first record of a journal: what it sets up, and what the call comes to that plays it.
+-- The replicas that a setup makes are new.
 use Prim.Native.Nat.{ℕ, zero, suc, _+_, _*_, _-_, _≤_, _<_}
 use mathlib.Core.Path.{_≡_, refl, ap}
-use mathlib.Core.List.{List, [], _∷_, map, map-append, append-nil}
+use mathlib.Core.List.{List, [], _∷_, map, map-append}
 use native.Mathlib.Omega.{arith}
-use lib.ListN.{length, take, drop, replicate, getD-replicate}
-use borrow.Author.Tests.{le-leb}
-use Rattle.limits.specs.Limits.{entrySize}
-use Rattle.question.specs.Question.{given, refused}
+use lib.ListN.{take, drop, replicate, getD-replicate}
 use Rattle.rules.specs.Lists.{upTo}
 use Rattle.rules.specs.declared.Settings.{Settings}
 use Rattle.rules.specs.Replica.{State, newState}
 use Rattle.state.specs.State.{partAt}
 use Rattle.state.proofs.Queues.{queues-new}
 use Rattle.queue.specs.Queue.{placesIn}
-use Rattle.entry.specs.Entry.{readSetup}
-use Rattle.playback.specs.Lines.{refusalLine}
-use Rattle.playback.specs.Journal.{fresh, playing, stopped, playRecord}
-use Rattle.playback.specs.Blocks.{linesSize, playBlock}
 use Rattle.playback.specs.Arrays.{Arrays, arrays, replicaAt, unitOf}
-use Rattle.playback.proofs.Loop.{block-next, block-stopped}
-
--- ── new replicas ──
 
 drop-same : (a n : ℕ) → drop {A = ℕ} a (replicate n 0) ≡ replicate (n - a) 0
 drop-same zero n = let z : n - zero ≡ n = omega arith in rw z
@@ -52,21 +42,3 @@ same-upTo f g (suc n) h =
 
 pub new-unit : (u : Settings) (pending : List (List ℕ)) → u .k ≤ 3 → unitOf u (replicaAt u (cleared pending)) ≡ map (newState u) (upTo (2 * u .k + 1))
 new-unit u pending small = same-upTo (replicaAt u (cleared pending)) (newState u) (2 * u .k + 1) (λ i less. new-replica u pending i (omega arith))
-
--- ── the call that plays it ──
-
-module _ (room : ℕ) (block : List ℕ) (long : entrySize ≤ length block) (free : linesSize ≤ room) where
-  pub first-accepted : {u : Settings} → readSetup (take entrySize block) ≡ given u →
-      let more = playBlock room (playing u 2 (map (newState u) (upTo (2 * u .k + 1)))) (drop entrySize block) in
-      playBlock room fresh block ≡ record { unit = more .unit; taken = entrySize + more .taken; text = more .text }
-  unfolding playRecord
-  first-accepted {u} read =
-      let all : room - 0 ≡ room = omega arith in
-      rw (read, all) at (block-next room fresh block long (le-leb linesSize room free))
-
-  pub first-refused : {number : ℕ} → readSetup (take entrySize block) ≡ refused number
-      → playBlock room fresh block ≡ record { unit = stopped; taken = entrySize; text = refusalLine 1 number }
-  unfolding playRecord
-  first-refused {number} read =
-      let next = rw read at (block-next room fresh block long (le-leb linesSize room free)) in
-      rw (block-stopped (room - length (refusalLine 1 number)) (drop entrySize block), append-nil (refusalLine 1 number)) at next

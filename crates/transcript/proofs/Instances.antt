@@ -14,10 +14,10 @@ use Rattle.rules.specs.Batch.{verdictOf, handle}
 use Rattle.rules.specs.Replica.{admit, deliver, handleBatch, visit, visitGroup, visits, put, putAll, stepped, step}
 use Rattle.rules.specs.Run.{messagesIn}
 use Rattle.entry.specs.Entry.{readSetup, readEntry}
-use Rattle.playback.specs.Play.{playEntry}
-use Rattle.playback.specs.Journal.{fresh, playRecord}
-use Rattle.playback.specs.Blocks.{playRecords, Call, playCalls, isOver, playEnd}
-use Rattle.playback.proofs.Whole.{setup, turn, input}
+use Rattle.transcript.specs.Play.{playEntry}
+use Rattle.transcript.specs.Journal.{fresh, playRecord}
+use Rattle.transcript.specs.Blocks.{playRecords, Call, playCalls, isOver, playEnd}
+use Rattle.transcript.proofs.Whole.{setup, turn, input}
 
 -- what is seen of some calls: the bytes left, whether that is the end, the text of the calls, and that of the end
 record Seen : Type 0 where

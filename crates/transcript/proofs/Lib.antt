@@ -1,0 +1,6 @@
+pub mod Whole
+pub mod Numbers
+pub mod Block
+pub mod Fits
+pub mod Cuts
+pub mod Instances
