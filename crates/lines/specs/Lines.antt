@@ -3,7 +3,7 @@ use Prim.Native.Nat.{ℕ}
 use mathlib.Core.Bool.{cond}
 use mathlib.Core.List.{List, [], _∷_, _++_, map}
 use lib.Dec.{eqb}
-use Rattle.text.specs.Text.{line}
+use Rattle.text.specs.Text.{joined, line}
 use Rattle.question.specs.Question.{Answer, given, refused}
 use Rattle.record.specs.Kind.{reply}
 use Rattle.record.specs.declared.message.Message.{Message}
@@ -39,10 +39,10 @@ messageLine m =
 abbrev pub refusalLine : ℕ → ℕ → List ℕ
 refusalLine place number = line noWord (place ∷ number ∷ [])
 
--- what a record did: a line for each message among the records that were sent, or its refusal
-abbrev pub answerLines : ℕ → ℕ → ℕ → Answer ℕ → List ℕ → List (List ℕ)
-answerLines k n place (given count) sent = map messageLine (messagesIn k n count sent)
-answerLines k n place (refused number) sent = refusalLine place number ∷ []
+-- what a call answered: a line for each message among the records that it sent, or that of its refusal
+abbrev pub answerLines : ℕ → ℕ → ℕ → Answer ℕ → List ℕ → List ℕ
+answerLines k n place (given count) sent = joined (map messageLine (messagesIn k n count sent))
+answerLines k n place (refused number) sent = refusalLine place number
 
 -- at the end each replica: its number, its failed mark, the writes performed
 abbrev pub cardLine : State → List ℕ

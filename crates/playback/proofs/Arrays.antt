@@ -7,7 +7,7 @@ use native.Mathlib.Omega.{arith}
 use lib.Dec.{eqb}
 use lib.ListN.{length, getD, set, drop, length-take, length-drop}
 use lib.Seq.{getD-take, getD-drop, getD-set-same, getD-set-other}
-use borrow.Author.Tests.{eqb-true, eqb-false}
+use borrow.Author.Tests.{eqb-true, eqb-false, lt-ltb}
 use borrow.Rule.Slice.PartMut.{midOf, putMid}
 use Rattle.layout.specs.declared.clock.LocalTime.{LocalTime}
 use Rattle.record.specs.declared.request.Request.{Request}
@@ -23,16 +23,22 @@ use Rattle.queue.specs.Queue.{placesIn, queuesIn}
 use Rattle.queue.proofs.Rows.{places-length, place-set}
 use Rattle.delivery.proofs.Added.{added}
 use Rattle.step.specs.Output.{stateIn}
-use Rattle.playback.specs.Arrays.{Arrays, arrays, replicaAt, replaced}
+use Rattle.transcript.specs.Journal.{replaced}
+use Rattle.playback.specs.Arrays.{Arrays, arrays, stateAt, replicaAt}
 
 -- a replica by what stands of it in the arrays
 state-is : (u : Settings) (number : ℕ) {l m : ℕ} {p q : ℕ → List Pending} {w x : ℕ} {v y : List ℕ} → l ≡ m → p ≡ q → w ≡ x → v ≡ y
     → stateIn u number (record { 0 = l }) p w v ≡ stateIn u number (record { 0 = m }) q x y
 state-is u number a b c d = rw (a, b, c, d)
 
+-- the replica at a place that one has
+pub replica-is : (u : Settings) (a : Arrays) (i : ℕ) → i < 7 → replicaAt u a (suc i) ≡ stateAt u a i
+unfolding replicaAt
+replica-is u a i here = rw (lt-ltb i 7 here)
+
 -- one is what it is, the others are what they were
-module _ (u : Settings) (old next : Arrays) (i : ℕ) (s : State) (own : replicaAt u next (suc i) ≡ s)
-    (others : (j : ℕ) → j ≢ i → replicaAt u next (suc j) ≡ replicaAt u old (suc j)) where
+module _ (u : Settings) (old next : Arrays) (i : ℕ) (here : i < 7) (s : State) (own : stateAt u next i ≡ s)
+    (others : (j : ℕ) → j ≢ i → stateAt u next j ≡ stateAt u old j) where
   pub replica-changed : replicaAt u next ≡ replaced (suc i) s (replicaAt u old)
   unfolding replicaAt
   replica-changed = fun-ext at
@@ -40,13 +46,12 @@ module _ (u : Settings) (old next : Arrays) (i : ℕ) (s : State) (own : replica
       at : (n : ℕ) → replicaAt u next n ≡ replaced (suc i) s (replicaAt u old) n
       at zero = case (eqb 0 (suc i)) (λ e. absurd (let z : 0 ≡ suc i = eqb-true 0 (suc i) e in omega arith)) (λ e. rw e)
       at (suc j) = case (eqb (suc j) (suc i))
-          (λ e. let same : j ≡ i = omega (arith, eqb-true (suc j) (suc i) e) in rw (e, same) own)
-          (λ e. rw e (others j (omega (arith, eqb-false (suc j) (suc i) e))))
+          (λ e. let same : j ≡ i = omega (arith, eqb-true (suc j) (suc i) e) in rw (e, same, lt-ltb i 7 here) own)
+          (λ e. rw (e, others j (omega (arith, eqb-false (suc j) (suc i) e))))
 
 -- nothing has changed
-pub replica-kept : (u : Settings) (a : Arrays) (i : ℕ) → replicaAt u a ≡ replaced (suc i) (replicaAt u a (suc i)) (replicaAt u a)
-unfolding replicaAt
-replica-kept u a i = replica-changed u a a i (replicaAt u a (suc i)) refl (λ j apart. refl)
+pub replica-kept : (u : Settings) (a : Arrays) (i : ℕ) → i < 7 → replicaAt u a ≡ replaced (suc i) (replicaAt u a (suc i)) (replicaAt u a)
+replica-kept u a i here = rw (replica-is u a i here) (replica-changed u a a i here (stateAt u a i) refl (λ j apart. refl))
 
 -- ── a request more ──
 
@@ -90,13 +95,12 @@ module _ (u : Settings) (old : Arrays) (i g : ℕ) (request : Request) (at : Loc
       rw (rows, part-set 4 i (old .counts) g (n + 1) small, place-set all (16 * g + n) row, ← held) (rw counted at one)
 
   pub arrays-arrive : replicaAt u next ≡ replaced (suc i) (arrive (replicaAt u old (suc i)) request at) (replicaAt u old)
-  unfolding replicaAt
   arrays-arrive =
-      replica-changed u old next i (arrive (replicaAt u old (suc i)) request at)
+      rw (replica-is u old i here) (replica-changed u old next i here (arrive (stateAt u old i) request at)
       (state-is u (suc i) (getD-set-same (old .lasts) i (at .0) 0 (omega arith)) (rw (← named) at queues) refl refl)
       (λ j apart.
       let rows-other : partAt 64 j (next .pending) ≡ partAt 64 j (old .pending) = rw at-row (part-set-other 64 i (old .pending) (16 * g + n) row (omega arith) j apart) in
-      state-is u (suc j) (getD-set-other (old .lasts) i j (at .0) 0 apart) (rw (rows-other, part-set-other 4 i (old .counts) g (n + 1) small j apart)) refl refl)
+      state-is u (suc j) (getD-set-other (old .lasts) i j (at .0) 0 apart) (rw (rows-other, part-set-other 4 i (old .counts) g (n + 1) small j apart)) refl refl))
 
 -- ── parts lent ──
 
@@ -114,9 +118,9 @@ module _ (u : Settings) (old : Arrays) (i : ℕ) (here : i < 7)
 
   -- what is lent is the replica
   pub arrays-lent : stateIn u (suc i) (record { 0 = getD (old .lasts) i 0 }) (queuesIn lentRows lentCounts) (getD (old .writes) i 0) lentVariables ≡ replicaAt u old (suc i)
-  unfolding replicaAt
   arrays-lent =
       rw (
+        replica-is u old i here,
         part-lent 64 i (old .pending) (64 * i) (64 * i + 64) (omega arith) (omega arith),
         part-lent 4 i (old .counts) (4 * i) (4 * i + 4) (omega arith) (omega arith),
         part-lent 256 i (old .variables) (256 * i) (256 * i + 256) (omega arith) (omega arith),
@@ -131,7 +135,6 @@ module _ (u : Settings) (old : Arrays) (i : ℕ) (here : i < 7)
     -- and what comes back is
     pub arrays-back : (s : State) → stateIn u (suc i) (record { 0 = at }) (queuesIn rows counts) writes variables ≡ s
         → replicaAt u back ≡ replaced (suc i) s (replicaAt u old)
-    unfolding replicaAt
     arrays-back s e =
         let pb = part-back 64 i (old .pending) (64 * i) (64 * i + 64) (omega arith) (omega arith) rows r in
         let cb = part-back 4 i (old .counts) (4 * i) (4 * i + 4) (omega arith) (omega arith) counts c in
@@ -139,6 +142,6 @@ module _ (u : Settings) (old : Arrays) (i : ℕ) (here : i < 7)
         let po = part-others 64 i (old .pending) (64 * i) (64 * i + 64) (omega arith) (omega arith) rows r in
         let co = part-others 4 i (old .counts) (4 * i) (4 * i + 4) (omega arith) (omega arith) counts c in
         let vo = part-others 256 i (old .variables) (256 * i) (256 * i + 256) (omega arith) (omega arith) variables v in
-        replica-changed u old back i s
+        replica-changed u old back i here s
         (state-is u (suc i) (getD-set-same (old .lasts) i at 0 (omega arith)) (rw (pb, cb)) (getD-set-same (old .writes) i writes 0 (omega arith)) vb ∙ e)
         (λ j apart. state-is u (suc j) (getD-set-other (old .lasts) i j at 0 apart) (rw (po j apart, co j apart)) (getD-set-other (old .writes) i j writes 0 apart) (vo j apart))

@@ -2,13 +2,12 @@
 use Prim.Native.Nat.{ℕ, _-_, min}
 use mathlib.Core.Path.{_≡_, refl, sym, _∙_}
 use mathlib.Core.Bool.{Bool, true, false}
-use mathlib.Core.List.{List, [], append-nil}
+use mathlib.Core.List.{List, []}
 use lib.Dec.{leb}
 use lib.ListN.{length, take, drop, length-drop, drop-of-length-le}
 use lib.Seq.{take-all, take-nil}
 use native.Mathlib.Omega.{arith}
 use borrow.Author.Tests.{leb-true, leb-false}
-use Rattle.text.specs.Text.{joined}
 use Rattle.question.specs.Question.{Answer, given, refused, worked, after, verdict, mapAnswer}
 use Rattle.rules.specs.declared.Settings.{Settings}
 use Rattle.rules.specs.Replica.{State, Stepped}
@@ -71,11 +70,11 @@ pub refused-text : (u : Settings) (place : ℕ) (output : List ℕ) (answer : An
 refused-text u place output (given t) e = absurd (let z : _≡_ {A = ℕ} 0 1 = cc in omega arith)
 refused-text u place output (refused other) {number} e =
     let same : number ≡ other = cc in
-    rw same (sym (append-nil (refusalLine place other)))
+    rw same
 
 -- what the answer and the records of a step print is what the journal's definition prints of it
 pub stepped-text : (u : Settings) (place : ℕ) (output : List ℕ) (answer : Answer Stepped) →
-    joined (answerLines (u .k) (u .groups) place (mapAnswer (λ d. d .count) answer) (after output (mapAnswer (λ d. d .output) answer)))
+    answerLines (u .k) (u .groups) place (mapAnswer (λ d. d .count) answer) (after output (mapAnswer (λ d. d .output) answer))
     ≡ linesOf u place answer
 stepped-text u place output (given d) = refl
 stepped-text u place output (refused number) = refl

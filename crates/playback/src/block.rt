@@ -1,15 +1,15 @@
 // A block of records played on a whole unit.
 ghost use mathlib.Core.Path.{_≡_};
-ghost use mathlib.Core.Bool.{_&&_};
-ghost use mathlib.Core.List.{[]};
+ghost use mathlib.Core.Bool.{false, _&&_};
 ghost use Prim.Native.Nat.{_≤_};
 ghost use lib.Dec.{leb, ltb};
 ghost use lib.ListN.{length};
 ghost use Rattle.limits.specs.Limits.{maxK, entrySize, maxPlace, maxReplicas, unitPlaces, unitQueues, unitVariables};
-ghost use Rattle.text.specs.Page.{page, putText};
+ghost use Rattle.text.specs.Page.{page};
 ghost use Rattle.transcript.specs.Journal.{fresh, playing};
 ghost use Rattle.transcript.specs.Blocks.{linesSize, playBlock};
-ghost use Rattle.playback.specs.Arrays.{arrays, replicaAt, unitOf, unitIn};
+ghost use Rattle.playback.specs.Arrays.{arrays, replicaAt, isSetUp, unitIn};
+ghost use Rattle.playback.specs.Calls.{Plays};
 use crate::play::play_record;
 use crate::stage::Stage;
 use entry::SetupRead;
@@ -63,9 +63,7 @@ fn play_rest(
 ) -> Rest
     requires { ⌜ (u .k ≤ maxK) × (length (now pending) ≡ unitPlaces) × (length (now counts) ≡ unitQueues) ⌝ }
     requires { ⌜ (length (now variables) ≡ unitVariables) × (length (now writes) ≡ maxReplicas) × (length (now lasts) ≡ maxReplicas) ⌝ }
-    ensures unit { λ r. ⌜ playing u (r .place) (unitOf u (replicaAt u (arrays (now (pending .exit)) (now (counts .exit)) (now (variables .exit)) (now (writes .exit)) (now (lasts .exit))))) ≡ playBlock (length (now (text .entry))) (playing u first (unitOf u (replicaAt u (arrays (now (pending .entry)) (now (counts .entry)) (now (variables .entry)) (now (writes .entry)) (now (lasts .entry)))))) (now (block .entry)) .unit ⌝ }
-    ensures taken { λ r. ⌜ r .taken ≡ playBlock (length (now (text .entry))) (playing u first (unitOf u (replicaAt u (arrays (now (pending .entry)) (now (counts .entry)) (now (variables .entry)) (now (writes .entry)) (now (lasts .entry)))))) (now (block .entry)) .taken ⌝ }
-    ensures text { λ r. ⌜ page (now (text .exit)) (r .used) ≡ putText (page (now (text .entry)) 0) (playBlock (length (now (text .entry))) (playing u first (unitOf u (replicaAt u (arrays (now (pending .entry)) (now (counts .entry)) (now (variables .entry)) (now (writes .entry)) (now (lasts .entry)))))) (now (block .entry)) .text) ⌝ }
+    ensures { λ r. ⌜ Plays (playBlock (length (now (text .entry))) (playing u first (replicaAt u (arrays (now (pending .entry)) (now (counts .entry)) (now (variables .entry)) (now (writes .entry)) (now (lasts .entry))))) (now (block .entry))) (playing u (r .place) (replicaAt u (arrays (now (pending .exit)) (now (counts .exit)) (now (variables .exit)) (now (writes .exit)) (now (lasts .exit))))) (r .taken) (page (now (text .entry)) 0) (page (now (text .exit)) (r .used)) ⌝ }
 {
     let mut place = first;
     let mut taken: usize = 0;
@@ -100,9 +98,8 @@ fn play_first(
     lasts: &mut [u64; MAX_REPLICAS],
     text: &mut [u8],
 ) -> Block
-    ensures unit { λ b. ⌜ unitIn (b .stage) (arrays (now (pending .exit)) (now (counts .exit)) (now (variables .exit)) (now (writes .exit)) (now (lasts .exit))) ≡ playBlock (length (now (text .entry))) fresh (now (block .entry)) .unit ⌝ }
-    ensures taken { λ b. ⌜ b .taken ≡ playBlock (length (now (text .entry))) fresh (now (block .entry)) .taken ⌝ }
-    ensures text { λ b. ⌜ page (now (text .exit)) (b .used) ≡ putText (page (now (text .entry)) 0) (playBlock (length (now (text .entry))) fresh (now (block .entry)) .text) ⌝ }
+    ensures played { λ b. ⌜ Plays (playBlock (length (now (text .entry))) fresh (now (block .entry))) (unitIn (b .stage) (arrays (now (pending .exit)) (now (counts .exit)) (now (variables .exit)) (now (writes .exit)) (now (lasts .exit)))) (b .taken) (page (now (text .entry)) 0) (page (now (text .exit)) (b .used)) ⌝ }
+    ensures kept { λ b. ⌜ (isSetUp (b .stage) ≡ false → arrays (now (pending .exit)) (now (counts .exit)) (now (variables .exit)) (now (writes .exit)) (now (lasts .exit)) ≡ arrays (now (pending .entry)) (now (counts .entry)) (now (variables .entry)) (now (writes .entry)) (now (lasts .entry))) ⌝ }
 {
     if !goes_on(block.len(), text.len(), 1) {
         return Block {
@@ -146,7 +143,7 @@ fn play_first(
 }
 
 // Plays the whole records of a block, one after another, until they are used up or the text has no room
-// for what another may print.
+// for what another may print. Where no unit is set up then, the arrays are what they were.
 pub fn play_block(
     stage: Stage,
     block: &[u8],
@@ -157,9 +154,8 @@ pub fn play_block(
     lasts: &mut [u64; MAX_REPLICAS],
     text: &mut [u8],
 ) -> Block
-    ensures unit { λ b. ⌜ unitIn (b .stage) (arrays (now (pending .exit)) (now (counts .exit)) (now (variables .exit)) (now (writes .exit)) (now (lasts .exit))) ≡ playBlock (length (now (text .entry))) (unitIn stage (arrays (now (pending .entry)) (now (counts .entry)) (now (variables .entry)) (now (writes .entry)) (now (lasts .entry)))) (now (block .entry)) .unit ⌝ }
-    ensures taken { λ b. ⌜ b .taken ≡ playBlock (length (now (text .entry))) (unitIn stage (arrays (now (pending .entry)) (now (counts .entry)) (now (variables .entry)) (now (writes .entry)) (now (lasts .entry)))) (now (block .entry)) .taken ⌝ }
-    ensures text { λ b. ⌜ page (now (text .exit)) (b .used) ≡ putText (page (now (text .entry)) 0) (playBlock (length (now (text .entry))) (unitIn stage (arrays (now (pending .entry)) (now (counts .entry)) (now (variables .entry)) (now (writes .entry)) (now (lasts .entry)))) (now (block .entry)) .text) ⌝ }
+    ensures played { λ b. ⌜ Plays (playBlock (length (now (text .entry))) (unitIn stage (arrays (now (pending .entry)) (now (counts .entry)) (now (variables .entry)) (now (writes .entry)) (now (lasts .entry)))) (now (block .entry))) (unitIn (b .stage) (arrays (now (pending .exit)) (now (counts .exit)) (now (variables .exit)) (now (writes .exit)) (now (lasts .exit)))) (b .taken) (page (now (text .entry)) 0) (page (now (text .exit)) (b .used)) ⌝ }
+    ensures kept { λ b. ⌜ (isSetUp (b .stage) ≡ false → arrays (now (pending .exit)) (now (counts .exit)) (now (variables .exit)) (now (writes .exit)) (now (lasts .exit)) ≡ arrays (now (pending .entry)) (now (counts .entry)) (now (variables .entry)) (now (writes .entry)) (now (lasts .entry))) ⌝ }
 {
     match stage {
         Stage::First => play_first(block, pending, counts, variables, writes, lasts, text),

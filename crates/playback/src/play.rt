@@ -2,17 +2,16 @@
 ghost use mathlib.Core.Path.{_≡_};
 ghost use mathlib.Core.List.{List};
 ghost use Prim.Native.Nat.{ℕ, _+_, _≤_};
-ghost use lib.ListN.{length, take, drop, replicate};
-ghost use Rattle.limits.specs.Limits.{maxK, recordSize, outputSize, maxReplicas, unitPlaces, unitQueues, unitVariables};
-ghost use Rattle.text.specs.Text.{joined};
+ghost use lib.ListN.{length, take, drop};
+ghost use Rattle.limits.specs.Limits.{maxK, recordSize, maxReplicas, unitPlaces, unitQueues, unitVariables};
 ghost use Rattle.text.specs.Page.{page, putText};
-ghost use Rattle.question.specs.Question.{mapAnswer, after};
+ghost use Rattle.question.specs.Question.{given};
 ghost use Rattle.step.specs.Answer.{stepAnswer};
-ghost use Rattle.entry.specs.Entry.{delivery, turn, readEntry};
+ghost use Rattle.entry.specs.Entry.{delivery, turn};
 ghost use Rattle.lines.specs.Lines.{answerLines};
-ghost use Rattle.transcript.specs.Play.{playEntry};
-ghost use Rattle.transcript.specs.Journal.{playing, linesOf, playRead};
-ghost use Rattle.playback.specs.Arrays.{arrays, replicaAt, replaced, unitOf};
+ghost use Rattle.transcript.specs.Journal.{playing, playRead, playRecord};
+ghost use Rattle.playback.specs.Arrays.{arrays, replicaAt};
+ghost use Rattle.playback.specs.Calls.{Prints};
 use crate::unit::deliver_to;
 use crate::unit::step_of;
 use entry::EntryRead;
@@ -42,8 +41,7 @@ fn play_delivery(
 ) -> usize
     requires { ⌜ (1 ≤ number) × (number ≤ maxReplicas) ⌝ }
     requires { ⌜ (length (now pending) ≡ unitPlaces) × (length (now counts) ≡ unitQueues) × (length (now lasts) ≡ maxReplicas) ⌝ }
-    ensures state { λ n. ⌜ ((variables writes : List ℕ) → replicaAt u (arrays (now (pending .exit)) (now (counts .exit)) variables writes (now (lasts .exit))) ≡ replaced number (after (replicaAt u (arrays (now (pending .entry)) (now (counts .entry)) variables writes (now (lasts .entry))) number) (mapAnswer (λ d. d .state) (playEntry (replicaAt u (arrays (now (pending .entry)) (now (counts .entry)) variables writes (now (lasts .entry))) number) (delivery number at (take recordSize (drop 16 (now (bytes .entry))))) (replicate outputSize 0)))) (replicaAt u (arrays (now (pending .entry)) (now (counts .entry)) variables writes (now (lasts .entry))))) ⌝ }
-    ensures text { λ n. ⌜ ((variables writes : List ℕ) → page (now (text .exit)) n ≡ putText (page (now (text .entry)) used) (linesOf u place (playEntry (replicaAt u (arrays (now (pending .entry)) (now (counts .entry)) variables writes (now (lasts .entry))) number) (delivery number at (take recordSize (drop 16 (now (bytes .entry))))) (replicate outputSize 0)))) ⌝ }
+    ensures { λ n. ⌜ ((variables writes : List ℕ) → Prints (playRead u place (replicaAt u (arrays (now (pending .entry)) (now (counts .entry)) variables writes (now (lasts .entry)))) (given (delivery number at (take recordSize (drop 16 (now (bytes .entry))))))) (playing u (place + 1) (replicaAt u (arrays (now (pending .exit)) (now (counts .exit)) variables writes (now (lasts .exit))))) (page (now (text .entry)) used) (page (now (text .exit)) n)) ⌝ }
 {
     let i = number as usize - 1;
     let start = at_most(16, bytes.len());
@@ -64,7 +62,7 @@ fn put_answer(
     text: &mut [u8],
     used: usize,
 ) -> usize
-    ensures { λ n. ⌜ page (now (text .exit)) n ≡ putText (page (now (text .entry)) used) (joined (answerLines k groups place (stepAnswer answer) (now (sent .entry)))) ⌝ }
+    ensures { λ n. ⌜ page (now (text .exit)) n ≡ putText (page (now (text .entry)) used) (answerLines k groups place (stepAnswer answer) (now (sent .entry))) ⌝ }
 {
     match answer {
         StepAnswer::Sent(count) => put_messages(k, groups, count, sent, text, used),
@@ -87,8 +85,7 @@ fn play_turn(
 ) -> usize
     requires { ⌜ (1 ≤ number) × (number ≤ maxReplicas) × (length (now pending) ≡ unitPlaces) × (length (now counts) ≡ unitQueues) ⌝ }
     requires { ⌜ (length (now variables) ≡ unitVariables) × (length (now writes) ≡ maxReplicas) × (length (now lasts) ≡ maxReplicas) ⌝ }
-    ensures state { λ n. ⌜ replicaAt u (arrays (now (pending .exit)) (now (counts .exit)) (now (variables .exit)) (now (writes .exit)) (now (lasts .exit))) ≡ replaced number (after (replicaAt u (arrays (now (pending .entry)) (now (counts .entry)) (now (variables .entry)) (now (writes .entry)) (now (lasts .entry))) number) (mapAnswer (λ d. d .state) (playEntry (replicaAt u (arrays (now (pending .entry)) (now (counts .entry)) (now (variables .entry)) (now (writes .entry)) (now (lasts .entry))) number) (turn number at) (replicate outputSize 0)))) (replicaAt u (arrays (now (pending .entry)) (now (counts .entry)) (now (variables .entry)) (now (writes .entry)) (now (lasts .entry)))) ⌝ }
-    ensures text { λ n. ⌜ page (now (text .exit)) n ≡ putText (page (now (text .entry)) used) (linesOf u place (playEntry (replicaAt u (arrays (now (pending .entry)) (now (counts .entry)) (now (variables .entry)) (now (writes .entry)) (now (lasts .entry))) number) (turn number at) (replicate outputSize 0))) ⌝ }
+    ensures { λ n. ⌜ Prints (playRead u place (replicaAt u (arrays (now (pending .entry)) (now (counts .entry)) (now (variables .entry)) (now (writes .entry)) (now (lasts .entry)))) (given (turn number at))) (playing u (place + 1) (replicaAt u (arrays (now (pending .exit)) (now (counts .exit)) (now (variables .exit)) (now (writes .exit)) (now (lasts .exit))))) (page (now (text .entry)) used) (page (now (text .exit)) n) ⌝ }
 {
     let i = number as usize - 1;
     let mut output = [0u8; OUTPUT];
@@ -121,8 +118,7 @@ pub(crate) fn play_record(
 ) -> usize
     requires { ⌜ (u .k ≤ maxK) × (length (now pending) ≡ unitPlaces) × (length (now counts) ≡ unitQueues) ⌝ }
     requires { ⌜ (length (now variables) ≡ unitVariables) × (length (now writes) ≡ maxReplicas) × (length (now lasts) ≡ maxReplicas) ⌝ }
-    ensures unit { λ n. ⌜ playing u (place + 1) (unitOf u (replicaAt u (arrays (now (pending .exit)) (now (counts .exit)) (now (variables .exit)) (now (writes .exit)) (now (lasts .exit))))) ≡ (playRead u place (unitOf u (replicaAt u (arrays (now (pending .entry)) (now (counts .entry)) (now (variables .entry)) (now (writes .entry)) (now (lasts .entry))))) (readEntry (u .k) (now (bytes .entry)))) .unit ⌝ }
-    ensures text { λ n. ⌜ page (now (text .exit)) n ≡ putText (page (now (text .entry)) used) ((playRead u place (unitOf u (replicaAt u (arrays (now (pending .entry)) (now (counts .entry)) (now (variables .entry)) (now (writes .entry)) (now (lasts .entry))))) (readEntry (u .k) (now (bytes .entry)))) .text) ⌝ }
+    ensures { λ n. ⌜ Prints (playRecord (playing u place (replicaAt u (arrays (now (pending .entry)) (now (counts .entry)) (now (variables .entry)) (now (writes .entry)) (now (lasts .entry))))) (now (bytes .entry))) (playing u (place + 1) (replicaAt u (arrays (now (pending .exit)) (now (counts .exit)) (now (variables .exit)) (now (writes .exit)) (now (lasts .exit))))) (page (now (text .entry)) used) (page (now (text .exit)) n) ⌝ }
 {
     match entry::read_entry(u.k, bytes) {
         EntryRead::Delivery(number, at) => play_delivery(

@@ -1,8 +1,8 @@
 -- What one call does with a block: nothing, or its first record and then what is left. Assumes nothing.
-use Prim.Native.Nat.{ℕ, zero, suc, _+_, _*_, _-_, _≤_, _<_}
+use Prim.Native.Nat.{ℕ, zero, suc, _+_, _-_, _≤_, _<_}
 use mathlib.Core.Path.{_≡_, refl}
 use mathlib.Core.Bool.{true, false, _&&_}
-use mathlib.Core.List.{List, [], _∷_, _++_, map, append-nil}
+use mathlib.Core.List.{List, [], _∷_, _++_, append-nil}
 use native.Mathlib.Omega.{arith}
 use lib.Dec.{leb, ltb}
 use lib.ListN.{length, take, drop, length-drop}
@@ -10,7 +10,6 @@ use borrow.Author.Tests.{leb-true, leb-false, ltb-false, lt-ltb, le-ltb, le-leb,
 use Rattle.limits.specs.Limits.{entrySize}
 use Rattle.question.specs.Question.{given, refused}
 use Rattle.question.proofs.Tests.{case}
-use Rattle.rules.specs.Lists.{upTo}
 use Rattle.rules.specs.declared.Settings.{Settings}
 use Rattle.rules.specs.Replica.{newState}
 use Rattle.entry.specs.Entry.{readSetup}
@@ -71,7 +70,7 @@ block-next room unit block long on = rw (whole-next block long, on)
 
 module _ (room : ℕ) (block : List ℕ) (long : entrySize ≤ length block) (free : linesSize ≤ room) where
   pub first-accepted : {u : Settings} → readSetup (take entrySize block) ≡ given u →
-      let more = playBlock room (playing u 2 (map (newState u) (upTo (2 * u .k + 1)))) (drop entrySize block) in
+      let more = playBlock room (playing u 2 (newState u)) (drop entrySize block) in
       playBlock room fresh block ≡ record { unit = more .unit; taken = entrySize + more .taken; text = more .text }
   unfolding playRecord
   first-accepted {u} read =

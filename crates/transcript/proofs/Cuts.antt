@@ -14,11 +14,10 @@ use Rattle.limits.specs.Limits.{entrySize, maxPlace}
 use Rattle.question.specs.Question.{Answer, given, refused, ask}
 use Rattle.question.proofs.Tests.{case, true-not-false}
 use Rattle.rules.specs.declared.Settings.{Settings}
-use Rattle.rules.specs.Replica.{State, Stepped}
-use Rattle.entry.specs.Entry.{readSetup, readEntry}
-use Rattle.transcript.specs.Journal.{Unit, fresh, playing, stopped, playSetup, putBack, playRecord, entriesOf, playAll, journal}
+use Rattle.rules.specs.Replica.{State}
+use Rattle.entry.specs.Entry.{Entry, readSetup, readEntry}
+use Rattle.transcript.specs.Journal.{Unit, fresh, playing, stopped, playSetup, playRead, playRecord, entriesOf, playAll, journal}
 use Rattle.transcript.specs.Blocks.{linesSize, wholeEntries, goesOn, Played, playRecords, playBlock, Call, playCalls, isOver, playPart, playEnd}
-use Rattle.transcript.proofs.Fits.{read-puts-back}
 use Rattle.transcript.proofs.Block.{untouched, block-short, block-stopped, taken-within, block-takes}
 
 -- ── the records of an input ──
@@ -161,17 +160,14 @@ setup-place : (settings : Answer Settings) → placeOf (playSetup settings .unit
 setup-place (given u) = omega arith
 setup-place (refused number) = omega arith
 
-answer-place : (u : Settings) (place : ℕ) (replicas : List State) (replica : ℕ) (answer : Answer Stepped)
-    → placeOf (putBack u place replica replicas answer .unit) ≤ place + 1
-answer-place u place replicas replica (given d) = omega arith
-answer-place u place replicas replica (refused number) = omega arith
+read-place : (u : Settings) (place : ℕ) (replicas : ℕ → State) (entry : Answer Entry) → placeOf (playRead u place replicas entry .unit) ≤ place + 1
+read-place u place replicas (given e) = omega arith
+read-place u place replicas (refused number) = omega arith
 
 record-place : (unit : Unit) (bytes : List ℕ) → placeOf (playRecord unit bytes .unit) ≤ placeOf unit + 1
 unfolding playRecord
 record-place fresh bytes = setup-place (readSetup bytes)
-record-place (playing u place replicas) bytes =
-    read-puts-back (λ p. placeOf (p .unit) ≤ place + 1) u place replicas
-    (λ replica answer sent. answer-place u place replicas replica answer) (readEntry (u .k) bytes)
+record-place (playing u place replicas) bytes = read-place u place replicas (readEntry (u .k) bytes)
 record-place stopped bytes = omega arith
 
 -- a call counts no more places than it takes bytes

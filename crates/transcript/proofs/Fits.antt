@@ -3,12 +3,12 @@
 use Prim.Native.Nat.{ℕ, _+_, _*_, _-_, _≤_}
 use mathlib.Core.Path.{_≡_, refl, sym, ap, _∙_}
 use mathlib.Core.Bool.{true, false}
-use mathlib.Core.List.{List, [], _∷_, _++_}
+use mathlib.Core.List.{List, [], _∷_, _++_, map}
 use lib.Dec.{leb, ltb}
-use lib.ListN.{length, take, drop, getD, replicate, length-append, length-take, length-drop, length-map, length-replicate, length-set}
+use lib.ListN.{length, take, drop, replicate, length-append, length-take, length-drop, length-map, length-replicate}
 use native.Mathlib.Omega.{arith}
 use borrow.Author.Tests.{leb-true}
-use Rattle.limits.specs.Limits.{recordSize, outputSize, maxSent, maxPlace}
+use Rattle.limits.specs.Limits.{maxK, recordSize, outputSize, maxSent, maxPlace}
 use Rattle.question.specs.Question.{Answer, given, refused, unitQuestions}
 use Rattle.question.proofs.Questions.{ask-through, ask-all-yes, all-yes-parts, bind-given, same-given}
 use Rattle.question.proofs.Tests.{case, both, true-not-false, unit-facts}
@@ -21,14 +21,13 @@ use Rattle.record.specs.declared.message.Message.{Message}
 use Rattle.record.proofs.Reading.{write-given, write-writable}
 use Rattle.rules.specs.Lists.{upTo}
 use Rattle.rules.specs.declared.Settings.{Settings}
-use Rattle.rules.specs.Replica.{State, Stepped, Written, written, behind, put, putAll, stepped, step, visits, atTime, deliver, newState}
+use Rattle.rules.specs.Replica.{State, Stepped, Written, written, behind, put, putAll, stepped, step, visits, atTime, deliver}
 use Rattle.laws.proofs.Lists.{length-upTo}
 use Rattle.laws.proofs.Step.{step-accepted}
 use Rattle.entry.specs.Entry.{Entry, delivery, turn, settingsIn, setupQuestions, readSetup, readEntry}
-use Rattle.transcript.specs.Play.{playEntry}
 use Rattle.lines.specs.Lines.{refusalLine}
-use Rattle.transcript.specs.Journal.{Unit, Printed, fresh, playing, stopped, playSetup, replicaFor, putBack, playRead, playRecord, cardLines}
-use Rattle.transcript.specs.Blocks.{linesSize, wholeEntries, goesOn, playRecords, playBlock, Call, playCalls, playPart, playEnd}
+use Rattle.transcript.specs.Journal.{Unit, fresh, playing, stopped, playSetup, replicaFor, playEntry, linesOf, playRead, playRecord, cardLines}
+use Rattle.transcript.specs.Blocks.{linesSize, wholeEntries, goesOn, playRecords, playBlock, playPart, playEnd}
 use Rattle.lines.proofs.Room.{messages-short, refusal-short, cards-short}
 
 -- ── what a step counts ──
@@ -85,24 +84,17 @@ entry-few s (delivery replica at request) output {d} size e =
     omega (arith, ap (λ (x : Stepped). x .count) (same-given (sent .2)))
 entry-few s (turn replica at) output size e = omega (arith, step-within s at output e)
 
--- it gives at most so many, where it gives
-abbrev pub SendsFew : Answer Stepped → Type 0
-SendsFew answer = (d : Stepped) → answer ≡ given d → d .count ≤ maxSent
+-- what it prints, where its answer sends at most so many
+answer-short : (u : Settings) (place : ℕ) (answer : Answer Stepped) → ((d : Stepped) → answer ≡ given d → d .count ≤ maxSent)
+    → length (linesOf u place answer) ≤ linesSize
+answer-short u place (given d) few = omega (arith, few d refl, messages-short (u .k) (u .groups) (d .count) (d .output))
+answer-short u place (refused number) few = omega (arith, refusal-short place number)
 
--- a record after the setup puts back the answer of an entry, or its own refusal: what holds of every answer that sends so few holds of it
-pub read-puts-back : (P : Printed → Type 0) (u : Settings) (place : ℕ) (replicas : List State)
-    → ((replica : ℕ) (answer : Answer Stepped) → SendsFew answer → P (putBack u place replica replicas answer))
-    → (entry : Answer Entry) → P (playRead u place replicas entry)
-read-puts-back P u place replicas each (given e) =
-    each (replicaFor e) _
-    (λ d. entry-few (getD replicas (replicaFor e - 1) (newState u 0)) e (replicate outputSize 0) (length-replicate {A = ℕ} outputSize 0))
-read-puts-back P u place replicas each (refused number) =
-    each 0 (refused number) (λ d e. absurd (let z : _≡_ {A = ℕ} 0 1 = cc in omega arith))
-
-answer-short : (u : Settings) (place : ℕ) (replicas : List State) (replica : ℕ) (answer : Answer Stepped) → SendsFew answer
-    → length (putBack u place replica replicas answer .text) ≤ linesSize
-answer-short u place replicas replica (given d) few = omega (arith, few d refl, messages-short (u .k) (u .groups) (d .count) (d .output))
-answer-short u place replicas replica (refused number) few = omega (arith, length-append (refusalLine place number) [], refusal-short place number)
+read-short : (u : Settings) (place : ℕ) (replicas : ℕ → State) (entry : Answer Entry) → length (playRead u place replicas entry .text) ≤ linesSize
+read-short u place replicas (given e) =
+    answer-short u place (playEntry (replicas (replicaFor e)) e (replicate outputSize 0))
+    (λ d. entry-few (replicas (replicaFor e)) e (replicate outputSize 0) (length-replicate {A = ℕ} outputSize 0))
+read-short u place replicas (refused number) = omega (arith, refusal-short place number)
 
 setup-short : (settings : Answer Settings) → length (playSetup settings .text) ≤ linesSize
 setup-short (given u) = omega arith
@@ -111,8 +103,7 @@ setup-short (refused number) = omega (arith, refusal-short 1 number)
 pub record-short : (unit : Unit) (bytes : List ℕ) → length (playRecord unit bytes .text) ≤ linesSize
 unfolding playRecord
 record-short fresh bytes = setup-short (readSetup bytes)
-record-short (playing u place replicas) bytes =
-    read-puts-back (λ p. length (p .text) ≤ linesSize) u place replicas (answer-short u place replicas) (readEntry (u .k) bytes)
+record-short (playing u place replicas) bytes = read-short u place replicas (readEntry (u .k) bytes)
 record-short stopped bytes = omega arith
 
 -- ── what a call prints ──
@@ -144,15 +135,17 @@ block-fits room unit block = records-fit room unit (wholeEntries (length block) 
 
 -- ── what the end prints ──
 
-abbrev pub replicasIn : Unit → List State
-replicasIn fresh = []
-replicasIn (playing u place replicas) = replicas
-replicasIn stopped = []
+-- the k of a unit, 0 where none is set up
+abbrev pub kIn : Unit → ℕ
+kIn fresh = 0
+kIn (playing u place replicas) = u .k
+kIn stopped = 0
 
-cards-within : (unit : Unit) → length (replicasIn unit) ≤ 7 → length (cardLines unit) ≤ 476
-cards-within fresh few = omega arith
-cards-within (playing u place replicas) few = omega (arith, cards-short replicas)
-cards-within stopped few = omega arith
+cards-within : (unit : Unit) → kIn unit ≤ maxK → length (cardLines unit) ≤ 476
+cards-within fresh small = omega arith
+cards-within (playing u place replicas) small =
+    omega (arith, cards-short (map replicas (upTo (2 * u .k + 1))), length-map (upTo (2 * u .k + 1)) replicas, length-upTo (2 * u .k + 1))
+cards-within stopped small = omega arith
 
 -- the k of a setup is at most 3
 pub setup-small : (bytes : List ℕ) {u : Settings} → readSetup bytes ≡ given u → u .k ≤ 3
@@ -164,56 +157,47 @@ setup-small bytes {u} e =
     let same : v ≡ u = same-given (ask-through (setupQuestions bytes) (given v) e) in
     rw (← same) (unit .k-high)
 
-setup-few : (bytes : List ℕ) (settings : Answer Settings) → readSetup bytes ≡ settings → length (replicasIn (playSetup settings .unit)) ≤ 7
-setup-few bytes (given u) e = omega (arith, setup-small bytes e, length-map (upTo (2 * u .k + 1)) (newState u), length-upTo (2 * u .k + 1))
-setup-few bytes (refused number) e = omega arith
+setup-k : (bytes : List ℕ) (settings : Answer Settings) → readSetup bytes ≡ settings → kIn (playSetup settings .unit) ≤ maxK
+setup-k bytes (given u) e = setup-small bytes e
+setup-k bytes (refused number) e = omega arith
 
--- no replica comes or goes
-answer-keeps : (u : Settings) (place : ℕ) (replicas : List State) (replica : ℕ) (answer : Answer Stepped)
-    → length (replicasIn (putBack u place replica replicas answer .unit)) ≡ length replicas
-answer-keeps u place replicas replica (given d) = length-set replicas (replica - 1) (d .state)
-answer-keeps u place replicas replica (refused number) = refl
+read-k : (u : Settings) (place : ℕ) (replicas : ℕ → State) (entry : Answer Entry) → kIn (playRead u place replicas entry .unit) ≡ u .k
+read-k u place replicas (given e) = refl
+read-k u place replicas (refused number) = refl
 
-record-few : (unit : Unit) (bytes : List ℕ) → length (replicasIn unit) ≤ 7 → length (replicasIn (playRecord unit bytes .unit)) ≤ 7
+record-k : (unit : Unit) (bytes : List ℕ) → kIn unit ≤ maxK → kIn (playRecord unit bytes .unit) ≤ maxK
 unfolding playRecord
-record-few fresh bytes few = setup-few bytes (readSetup bytes) refl
-record-few (playing u place replicas) bytes few =
-    read-puts-back (λ p. length (replicasIn (p .unit)) ≤ 7) u place replicas
-    (λ replica answer sent. omega (arith, answer-keeps u place replicas replica answer)) (readEntry (u .k) bytes)
-record-few stopped bytes few = few
+record-k fresh bytes small = setup-k bytes (readSetup bytes) refl
+record-k (playing u place replicas) bytes small = omega (arith, read-k u place replicas (readEntry (u .k) bytes))
+record-k stopped bytes small = small
 
--- so there are at most seven after any calls
-records-few : (room : ℕ) (unit : Unit) (records : List (List ℕ)) → length (replicasIn unit) ≤ 7 → length (replicasIn (playRecords room unit records .unit)) ≤ 7
+-- so it is after any calls
+records-k : (room : ℕ) (unit : Unit) (records : List (List ℕ)) → kIn unit ≤ maxK → kIn (playRecords room unit records .unit) ≤ maxK
 unfolding playRecords
-records-few room unit [] few = few
-records-few room unit (bytes ∷ records) few =
+records-k room unit [] small = small
+records-k room unit (bytes ∷ records) small =
     let one = playRecord unit bytes in
     case (goesOn room unit)
-    (λ on. rw on (records-few (room - length (one .text)) (one .unit) records (record-few unit bytes few)))
-    (λ off. rw off few)
+    (λ on. rw on (records-k (room - length (one .text)) (one .unit) records (record-k unit bytes small)))
+    (λ off. rw off small)
 
-pub calls-few : (calls : List Call) (unit : Unit) (input : List ℕ) → length (replicasIn unit) ≤ 7 → length (replicasIn (playCalls calls unit input .unit)) ≤ 7
-unfolding playCalls
-calls-few [] unit input few = few
-calls-few (c ∷ calls) unit input few =
-    let block = take (c .size) input in
-    let done = playBlock (c .room) unit block in
-    calls-few calls (done .unit) (drop (done .taken) input) (records-few (c .room) unit (wholeEntries (length block) block) few)
+pub block-k : (room : ℕ) (unit : Unit) (block : List ℕ) → kIn unit ≤ maxK → kIn (playBlock room unit block .unit) ≤ maxK
+block-k room unit block small = records-k room unit (wholeEntries (length block) block) small
 
 -- what is refused at the end
 part-short : (unit : Unit) → length (playPart unit .text) ≤ 45
 part-short fresh = refusal-short 1 18
-part-short (playing u place replicas) = omega (arith, length-append (refusalLine place 18) [], refusal-short place 18)
+part-short (playing u place replicas) = refusal-short place 18
 part-short stopped = omega arith
 
-part-keeps : (unit : Unit) → length (replicasIn (playPart unit .unit)) ≤ length (replicasIn unit)
-part-keeps fresh = omega arith
-part-keeps (playing u place replicas) = omega arith
-part-keeps stopped = omega arith
+part-k : (unit : Unit) → kIn (playPart unit .unit) ≤ kIn unit
+part-k fresh = omega arith
+part-k (playing u place replicas) = omega arith
+part-k stopped = omega arith
 
-pub end-fits : (unit : Unit) (left : List ℕ) → length (replicasIn unit) ≤ 7 → length (playEnd unit left) ≤ 45 + 476
+pub end-fits : (unit : Unit) (left : List ℕ) → kIn unit ≤ maxK → length (playEnd unit left) ≤ 45 + 476
 unfolding playEnd
-end-fits unit [] few = omega (arith, cards-within unit few)
-end-fits unit (b ∷ rest) few =
+end-fits unit [] small = omega (arith, cards-within unit small)
+end-fits unit (b ∷ rest) small =
     let last = playPart unit in
-    omega (arith, length-append (last .text) (cardLines (last .unit)), part-short unit, cards-within (last .unit) (omega (arith, part-keeps unit)))
+    omega (arith, length-append (last .text) (cardLines (last .unit)), part-short unit, cards-within (last .unit) (omega (arith, part-k unit)))

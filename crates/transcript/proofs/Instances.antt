@@ -14,8 +14,7 @@ use Rattle.rules.specs.Batch.{verdictOf, handle}
 use Rattle.rules.specs.Replica.{admit, deliver, handleBatch, visit, visitGroup, visits, put, putAll, stepped, step}
 use Rattle.rules.specs.Run.{messagesIn}
 use Rattle.entry.specs.Entry.{readSetup, readEntry}
-use Rattle.transcript.specs.Play.{playEntry}
-use Rattle.transcript.specs.Journal.{fresh, playRecord}
+use Rattle.transcript.specs.Journal.{playEntry, fresh, playRecord}
 use Rattle.transcript.specs.Blocks.{playRecords, Call, playCalls, isOver, playEnd}
 use Rattle.transcript.proofs.Whole.{setup, turn, input}
 

@@ -15,8 +15,7 @@ use Rattle.rules.specs.Batch.{verdictOf, handle}
 use Rattle.rules.specs.Replica.{admit, deliver, handleBatch, visit, visitGroup, visits, put, putAll, stepped, step}
 use Rattle.rules.specs.Run.{messagesIn}
 use Rattle.entry.specs.Entry.{readSetup, readEntry}
-use Rattle.transcript.specs.Play.{playEntry}
-use Rattle.transcript.specs.Journal.{playRecord, playAll, journal}
+use Rattle.transcript.specs.Journal.{playEntry, playRecord, playAll, journal}
 
 -- ── the bytes ──
 

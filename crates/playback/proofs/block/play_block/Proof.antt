@@ -1,8 +1,10 @@
 use mathlib.Core.Path.{refl, sym}
+use mathlib.Core.Bool.{true}
 use native.Mathlib.Omega.{arith}
 use lib.ListN.{length}
 use borrow.Author.Tests.{le-leb, lt-leb}
 use borrow.Author.Needs.{needs}
+use Rattle.question.proofs.Tests.{true-not-false}
 use Rattle.text.specs.Page.{page}
 use Rattle.text.proofs.Put.{put-nothing}
 use Rattle.transcript.proofs.Block.{block-stopped}
@@ -22,7 +24,7 @@ returns : tie.Need-returns
 returns c =
     let told = c .before .before .before in
     let a = told .before .before .before .before .args in
-    rw (told .stage .given .1, lt-leb (told .stage .given .0 .0 .k) 3 (c .if1 .taken), block-stopped (length (a .text .now)) (a .block .now)) (refl, (refl, sym (put-nothing (page (a .text .now) 0))))
+    rw (told .stage .given .1, lt-leb (told .stage .given .0 .0 .k) 3 (c .if1 .taken), block-stopped (length (a .text .now)) (a .block .now)) ((refl, refl, sym (put-nothing (page (a .text .now) 0))), λ none. refl)
 
 play-rest-requires : tie.Need-play-rest-requires
 play-rest-requires c κs =
@@ -48,12 +50,12 @@ returns-3 c =
     let done = c .before .before in
     let small = done .before .before .before .before .before .before .before in
     let told = small .before .before .before in
-    rw (told .stage .given .1, le-leb (told .stage .given .0 .0 .k) 3 (small .if1 .left)) (done .play-rest .ensures)
+    rw (told .stage .given .1, le-leb (told .stage .given .0 .0 .k) 3 (small .if1 .left)) (done .play-rest .ensures, λ off. true-not-false true refl off)
 
 returns-4 : tie.Need-returns-4
 returns-4 c =
     let a = c .before .before .before .before .args in
-    rw (c .enum-told2 .given .1, block-stopped (length (a .text .now)) (a .block .now)) (refl, (refl, sym (put-nothing (page (a .text .now) 0))))
+    rw (c .enum-told2 .given .1, block-stopped (length (a .text .now)) (a .block .now)) ((refl, refl, sym (put-nothing (page (a .text .now) 0))), λ none. refl)
 
 pub play-block-spec : {M : Type 1} → statement M
 play-block-spec =

@@ -1,7 +1,7 @@
 -- The setup makes the replicas new; the rest of the block is played on them.
 use Prim.Native.Nat.{ℕ, _+_, _-_, _≤_}
 use mathlib.Core.Path.{_≡_, refl, sym, ap, _∙_}
-use mathlib.Core.Bool.{false, _&&_, and-true}
+use mathlib.Core.Bool.{true, false, _&&_, and-true}
 use mathlib.Core.List.{List}
 use native.Mathlib.Omega.{arith}
 use lib.Dec.{leb, ltb}
@@ -11,11 +11,11 @@ use borrow.Author.Tests.{leb-true, le-leb, not-true, not-false}
 use borrow.Author.Needs.{needs}
 use Rattle.limits.specs.Limits.{entrySize, maxPlace}
 use Rattle.question.specs.Question.{given, refused}
-use Rattle.question.proofs.Tests.{both}
+use Rattle.question.proofs.Tests.{both, true-not-false}
 use Rattle.entry.specs.Entry.{readSetup, setupAnswer}
 use Rattle.transcript.specs.Journal.{fresh, playing}
 use Rattle.transcript.specs.Blocks.{linesSize}
-use Rattle.playback.specs.Arrays.{replicaAt, unitOf}
+use Rattle.playback.specs.Arrays.{replicaAt}
 use Rattle.text.specs.Page.{page}
 use Rattle.text.proofs.Put.{put-nothing}
 use Rattle.transcript.proofs.Fits.{setup-small}
@@ -50,7 +50,7 @@ returns c =
     let a = c .before .before .before .before .args in
     let ready = leb entrySize (length (a .block .now)) && leb linesSize (length (a .text .now)) in
     let off : ready ≡ false = sym (and-true ready) ∙ (sym (c .before .goes-on .ensures) ∙ not-true _ (c .if1 .taken)) in
-    rw (block-none (length (a .text .now)) fresh (a .block .now) off) (refl, (refl, sym (put-nothing (page (a .text .now) 0))))
+    rw (block-none (length (a .text .now)) fresh (a .block .now) off) ((refl, refl, sym (put-nothing (page (a .text .now) 0))), λ none. refl)
 
 sub-read-setup : tie.Need-sub-read-setup
 sub-read-setup c = search needs
@@ -87,8 +87,8 @@ add-t23 c =
     let read = done .before .before .before .before .before .before .before .before .before .before .before .before .before in
     let s = read .before .before .before .before .before .before .before .before in
     let a = s .args in
-    let within = taken-within (length (a .text .now)) (playing (read .u .given .0 .0) 2 (unitOf (read .u .given .0 .0) (replicaAt (read .u .given .0 .0) (cleared (a .pending .now))))) (drop entrySize (a .block .now)) in
-    let said = rw (rest-is (a .block .now)) at (done .play-rest .ensures .1 .0) in
+    let within = taken-within (length (a .text .now)) (playing (read .u .given .0 .0) 2 (replicaAt (read .u .given .0 .0) (cleared (a .pending .now)))) (drop entrySize (a .block .now)) in
+    let said = rw (rest-is (a .block .now)) at (done .play-rest .ensures .1) in
     let all : 40 + done .play-rest .result .taken ≤ length (a .block .now) = omega (arith, within, said, length-drop entrySize (a .block .now), going (read .before .before .before .before)) in
     search (needs, all)
 
@@ -110,9 +110,9 @@ returns-2 c =
     let u = read .u .given .0 .0 in
     let go = going (read .before .before .before .before) in
     let small = setup-small (take entrySize (a .block .now)) (accepted read) in
-    let said = rw (rest-is (a .block .now), new-unit u (a .pending .now) small) at (done .play-rest .ensures) in
+    let said = rw (rest-is (a .block .now), new-unit u (a .pending .now)) at (done .play-rest .ensures) in
     rw (le-leb (u .k) 3 small, first-accepted (length (a .text .now)) (a .block .now) (go .0) (go .1) (accepted read))
-    (said .0, (ap (λ n. entrySize + n) (said .1 .0), said .1 .1))
+    ((said .0, ap (λ n. entrySize + n) (said .1), said .2), λ off. true-not-false true refl off)
 
 same-length-2 : tie.Need-same-length-2
 same-length-2 c = search needs
@@ -124,7 +124,7 @@ returns-3 c =
     let a = read .before .before .before .before .before .before .before .before .args in
     let go = going (read .before .before .before .before) in
     let no : readSetup (take entrySize (a .block .now)) ≡ refused (read .number .given .0 .0) = sym (read .before .before .read-setup .ensures) ∙ ap setupAnswer (read .number .given .1) in
-    rw (first-refused (length (a .text .now)) (a .block .now) (go .0) (go .1) no) (refl, (refl, put .put-refusal .ensures))
+    rw (first-refused (length (a .text .now)) (a .block .now) (go .0) (go .1) no) ((refl, refl, put .put-refusal .ensures), λ none. refl)
 
 pub play-first-spec : {M : Type 1} → statement M
 play-first-spec =

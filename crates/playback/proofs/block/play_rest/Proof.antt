@@ -12,7 +12,7 @@ use Rattle.text.specs.Page.{page}
 use Rattle.question.proofs.Tests.{both}
 use Rattle.transcript.specs.Journal.{playing, playRecord}
 use Rattle.transcript.specs.Blocks.{linesSize, playBlock}
-use Rattle.playback.specs.Arrays.{arrays, replicaAt, unitOf}
+use Rattle.playback.specs.Arrays.{arrays, replicaAt}
 use Rattle.playback.proofs.Loop.{put-within, Left, left-next, left-over}
 use Rattle.playback.proofs.block.play_rest.Statement.{statement}
 use Rattle.playback.proofs.block.play_rest.Tie as tie
@@ -27,8 +27,8 @@ Inv-loop u first block pending₀ counts₀ variables₀ writes₀ lasts₀ text
     × (length writes ≡ length writes₀)
     × (length lasts ≡ length lasts₀)
     × (length text ≡ length text₀)
-    × Left (playBlock (length text₀) (playing u first (unitOf u (replicaAt u (arrays pending₀ counts₀ variables₀ writes₀ lasts₀)))) block)
-    (playing u place (unitOf u (replicaAt u (arrays pending counts variables writes lasts)))) block text used taken (page text₀ 0)
+    × Left (playBlock (length text₀) (playing u first (replicaAt u (arrays pending₀ counts₀ variables₀ writes₀ lasts₀))) block)
+    (playing u place (replicaAt u (arrays pending counts variables writes lasts))) block text used taken (page text₀ 0)
 
 abbrev μ-loop : tie.MeasureT-loop
 μ-loop u first block pending₀ counts₀ variables₀ writes₀ lasts₀ text₀ place₀ taken₀ used₀ pending counts variables writes lasts text place taken used = length block - taken
@@ -98,8 +98,8 @@ loop-again c =
     let inv = l .loop .inv in
     let go = going then in
     let u = a .u in
-    let old = playing u (l .loop .place) (unitOf u (replicaAt u (arrays (l .loop .pending) (l .loop .counts) (l .loop .variables) (l .loop .writes) (l .loop .lasts)))) in
-    let all = playBlock (length (a .text .now)) (playing u (a .first) (unitOf u (replicaAt u (arrays (a .pending .now) (a .counts .now) (a .variables .now) (a .writes .now) (a .lasts .now))))) (a .block .now) in
+    let old = playing u (l .loop .place) (replicaAt u (arrays (l .loop .pending) (l .loop .counts) (l .loop .variables) (l .loop .writes) (l .loop .lasts))) in
+    let all = playBlock (length (a .text .now)) (playing u (a .first) (replicaAt u (arrays (a .pending .now) (a .counts .now) (a .variables .now) (a .writes .now) (a .lasts .now)))) (a .block .now) in
     let kept = done .play-record .kept .1 .1 .1 in
     let one : l .loop .taken + entrySize - l .loop .taken ≡ entrySize = omega arith in
     let said = rw one at (done .play-record .ensures) in
@@ -139,13 +139,12 @@ returns c =
     let l = c .before .before in
     let a = l .before .before .before .before .before .before .before .args in
     let u = a .u in
-    let old = playing u (l .loop .place) (unitOf u (replicaAt u (arrays (l .loop .pending) (l .loop .counts) (l .loop .variables) (l .loop .writes) (l .loop .lasts)))) in
-    let all = playBlock (length (a .text .now)) (playing u (a .first) (unitOf u (replicaAt u (arrays (a .pending .now) (a .counts .now) (a .variables .now) (a .writes .now) (a .lasts .now))))) (a .block .now) in
+    let old = playing u (l .loop .place) (replicaAt u (arrays (l .loop .pending) (l .loop .counts) (l .loop .variables) (l .loop .writes) (l .loop .lasts))) in
+    let all = playBlock (length (a .text .now)) (playing u (a .first) (replicaAt u (arrays (a .pending .now) (a .counts .now) (a .variables .now) (a .writes .now) (a .lasts .now)))) (a .block .now) in
     let left = length (a .block .now) - l .loop .taken in
     let room = length (l .loop .text) - l .loop .used in
     let off = sym (and-assoc (leb entrySize left) (leb linesSize room) (ltb (l .loop .place) maxPlace)) ∙ (sym (c .before .goes-on .ensures) ∙ c .if1 .left) in
-    let over = left-over all old (a .block .now) (l .loop .text) (l .loop .used) (l .loop .taken) (page (a .text .now) 0) (l .loop .inv .8) off in
-    (over .0, (over .1, over .2))
+    left-over all old (a .block .now) (l .loop .text) (l .loop .used) (l .loop .taken) (page (a .text .now) 0) (l .loop .inv .8) off
 
 pub play-rest-spec : {M : Type 1} → statement M
 play-rest-spec =

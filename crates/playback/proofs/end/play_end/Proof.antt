@@ -1,3 +1,4 @@
+use Prim.Native.Nat.{_+_, _*_}
 use mathlib.Core.Path.{sym, ap, _∙_}
 use mathlib.Core.List.{map}
 use borrow.Author.Tests.{le-leb, lt-leb}
@@ -5,8 +6,9 @@ use borrow.Author.Needs.{needs}
 use Rattle.text.specs.Text.{joined}
 use Rattle.text.specs.Page.{Page, page, putText}
 use Rattle.text.proofs.Put.{put-nothing, put-put}
+use Rattle.rules.specs.Lists.{upTo}
 use Rattle.lines.specs.Lines.{cardLine}
-use Rattle.playback.specs.Arrays.{replicaAt, unitOf}
+use Rattle.playback.specs.Arrays.{replicaAt}
 use Rattle.transcript.proofs.Cuts.{stopped-end}
 use Rattle.playback.proofs.Cards.{end-fresh, end-playing}
 use Rattle.playback.proofs.end.play_end.Statement.{statement}
@@ -67,8 +69,8 @@ returns-3 c =
     let a = told .before .before .before .before .args in
     let u = told .stage .given .0 .0 in
     λ arrays e f.
-    rw (told .stage .given .1, le-leb (u .k) 3 (small .if1 .left), ← end-playing u (told .stage .given .0 .1 .0) (unitOf u (replicaAt u arrays)) (a .rest .now))
-    (done .put-cards .ensures u arrays e f ∙ (ap (λ (p : Page). putText p (joined (map cardLine (unitOf u (replicaAt u arrays))))) (put .put-part2 .ensures) ∙ put-put (page (a .text .now) 0) _ _))
+    rw (told .stage .given .1, le-leb (u .k) 3 (small .if1 .left), ← end-playing u (told .stage .given .0 .1 .0) (replicaAt u arrays) (a .rest .now))
+    (done .put-cards .ensures u arrays e f ∙ (ap (λ (p : Page). putText p (joined (map cardLine (map (replicaAt u arrays) (upTo (2 * u .k + 1)))))) (put .put-part2 .ensures) ∙ put-put (page (a .text .now) 0) _ _))
 
 returns-4 : tie.Need-returns-4
 returns-4 c =

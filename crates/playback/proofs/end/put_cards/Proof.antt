@@ -61,7 +61,7 @@ loop-again c =
       omega arith,
       done .put-card .kept .1 .1 .1 .0 ∙ l .loop .inv .1,
       λ u arrays e f.
-          (rw (← e, ← f, l .loop .inv .2 u arrays e f) at (done .put-card .ensures)) ∙ cards-next u arrays (page (a .text .now) (a .used)) (l .loop .i),
+          (rw (← e, ← f, l .loop .inv .2 u arrays e f) at (done .put-card .ensures)) ∙ cards-next u arrays (page (a .text .now) (a .used)) (l .loop .i) (omega arith),
     )
 
 same-length : tie.Need-same-length Inv-loop μ-loop

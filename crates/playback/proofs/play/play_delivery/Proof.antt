@@ -1,5 +1,5 @@
 -- The request is bytes 16 to 39, as far as the record has them.
-use Prim.Native.Nat.{suc, _-_, ℕ}
+use Prim.Native.Nat.{ℕ, suc, _+_, _-_}
 use mathlib.Core.Path.{_≡_, sym, ap, _∙_}
 use mathlib.Core.List.{List}
 use native.Mathlib.Omega.{arith}
@@ -11,8 +11,8 @@ use Rattle.text.proofs.Put.{put-nothing}
 use Rattle.question.specs.Question.{mapAnswer, after}
 use Rattle.rules.specs.Replica.{State, deliver}
 use Rattle.entry.specs.Entry.{delivery}
-use Rattle.transcript.specs.Play.{playEntry}
-use Rattle.playback.specs.Arrays.{arrays, replicaAt, replaced}
+use Rattle.transcript.specs.Journal.{playing, replaced, playEntry}
+use Rattle.playback.specs.Arrays.{arrays, replicaAt}
 use Rattle.playback.proofs.Plays.{request-part, state-delivered, done-text, refused-text}
 use Rattle.playback.proofs.play.play_delivery.Statement.{statement}
 use Rattle.playback.proofs.play.play_delivery.Tie as tie
@@ -88,14 +88,12 @@ returns : tie.Need-returns
 unfolding playEntry
 returns c =
     let done = c .before .before .before .before .before .before .before in
-    let a = done .before .before .before .before .before .before .before .before .before .before .before .args in (
-      left done,
-      λ variables writes.
-          let replicas = replicaAt (a .u) (arrays (a .pending .now) (a .counts .now) variables writes (a .lasts .now)) in
-          let answer = deliver (replicas (a .number)) (take 24 (drop 16 (a .bytes .now))) (a .at) in
-          let gave = rw (c .enum-told .given .1, named done, request done) at (done .deliver-to .ensures .0 variables writes) in
-          rw (done-text (a .u) (a .place) (replicate outputSize 0) answer gave) (sym (put-nothing (page (a .text .now) (a .used)))),
-    )
+    let a = done .before .before .before .before .before .before .before .before .before .before .before .args in
+    λ variables writes.
+    let replicas = replicaAt (a .u) (arrays (a .pending .now) (a .counts .now) variables writes (a .lasts .now)) in
+    let answer = deliver (replicas (a .number)) (take 24 (drop 16 (a .bytes .now))) (a .at) in
+    let gave = rw (c .enum-told .given .1, named done, request done) at (done .deliver-to .ensures .0 variables writes) in
+    (ap (playing (a .u) (a .place + 1)) (left done variables writes), rw (done-text (a .u) (a .place) (replicate outputSize 0) answer gave) (sym (put-nothing (page (a .text .now) (a .used)))))
 
 same-length-4 : tie.Need-same-length-4
 same-length-4 c = search needs
@@ -115,14 +113,12 @@ returns-2 c =
     let put = c .before .before in
     let told = put .before .before .before in
     let done = told .before .before .before .before .before .before .before in
-    let a = done .before .before .before .before .before .before .before .before .before .before .before .args in (
-      left done,
-      λ variables writes.
-          let replicas = replicaAt (a .u) (arrays (a .pending .now) (a .counts .now) variables writes (a .lasts .now)) in
-          let answer = deliver (replicas (a .number)) (take 24 (drop 16 (a .bytes .now))) (a .at) in
-          let gave = rw (told .refusal .given .1, named done, request done) at (done .deliver-to .ensures .0 variables writes) in
-          rw (← refused-text (a .u) (a .place) (replicate outputSize 0) answer gave) (put .put-refusal .ensures),
-    )
+    let a = done .before .before .before .before .before .before .before .before .before .before .before .args in
+    λ variables writes.
+    let replicas = replicaAt (a .u) (arrays (a .pending .now) (a .counts .now) variables writes (a .lasts .now)) in
+    let answer = deliver (replicas (a .number)) (take 24 (drop 16 (a .bytes .now))) (a .at) in
+    let gave = rw (told .refusal .given .1, named done, request done) at (done .deliver-to .ensures .0 variables writes) in
+    (ap (playing (a .u) (a .place + 1)) (left done variables writes), rw (← refused-text (a .u) (a .place) (replicate outputSize 0) answer gave) (put .put-refusal .ensures))
 
 pub play-delivery-spec : {M : Type 1} → statement M
 play-delivery-spec =

@@ -1,26 +1,15 @@
 -- The record that was read names a replica of the unit.
-use Prim.Native.Nat.{ℕ, _≤_}
+use Prim.Native.Nat.{_≤_}
 use mathlib.Core.Path.{_≡_, refl, sym, ap, _∙_}
-use mathlib.Core.List.{append-nil}
 use native.Mathlib.Omega.{arith}
 use lib.ListN.{take, drop}
 use borrow.Author.Needs.{needs}
-use Rattle.text.specs.Page.{page, putText}
 use Rattle.question.specs.Question.{given, refused}
-use Rattle.rules.specs.Replica.{State}
 use Rattle.entry.specs.Entry.{Entry, delivery, turn, readEntry, entryAnswer}
-use Rattle.lines.specs.Lines.{refusalLine}
-use Rattle.transcript.specs.Journal.{replicaFor}
-use Rattle.playback.specs.Arrays.{arrays, replicaAt}
-use Rattle.playback.proofs.Recorded.{entry-there, read-unit, read-text}
+use Rattle.transcript.specs.Journal.{replicaFor, playRecord}
+use Rattle.playback.proofs.Recorded.{entry-there}
 use Rattle.playback.proofs.play.play_record.Statement.{statement}
 use Rattle.playback.proofs.play.play_record.Tie as tie
-
--- the unit's replicas before
-abbrev replicas : tie.Start → ℕ → State
-replicas c =
-    let a = c .args in
-    replicaAt (a .u) (arrays (a .pending .now) (a .counts .now) (a .variables .now) (a .writes .now) (a .lasts .now))
 
 -- a unit has at most seven
 few : (s : tie.Start) {e : Entry} → readEntry (s .args .u .k) (s .args .bytes .now) ≡ given e → (1 ≤ replicaFor e) × (replicaFor e ≤ 7)
@@ -82,19 +71,13 @@ same-length-4 : tie.Need-same-length-4
 same-length-4 c = search needs
 
 returns : tie.Need-returns
+unfolding playRecord
 returns c =
     let done = c .before .before .before .before .before .before .before in
     let read = done .before .before .before .before .before .before in
     let s = read .before .before .before .before .before .before .before .before .before in
     let a = s .args in
-    let e = delivery (read .number .given .0 .0) (read .number .given .0 .1 .0) (take 24 (drop 16 (a .bytes .now))) in
-    let there = entry-there (a .u .k) (a .bytes .now) (delivered read) in
-    let next = done .play-delivery .ensures .0 (a .variables .now) (a .writes .now) in
-    let text = done .play-delivery .ensures .1 (a .variables .now) (a .writes .now) in
-    rw (delivered read) (
-      read-unit (a .u) (a .place) (replicas s) _ e (there .0) (there .1) next,
-      text ∙ ap (putText (page (a .text .now) (a .used))) (read-text (a .u) (a .place) (replicas s) (replicas s) e (there .0) (there .1)),
-    )
+    rw (delivered read) (done .play-delivery .ensures (a .variables .now) (a .writes .now))
 
 same-length-5 : tie.Need-same-length-5
 same-length-5 c = search needs
@@ -115,22 +98,17 @@ same-length-10 : tie.Need-same-length-10
 same-length-10 c = search needs
 
 returns-2 : tie.Need-returns-2
+unfolding playRecord
 returns-2 c =
     let done = c .before .before .before .before .before .before .before .before .before .before .before in
     let read = done .before .before .before .before .before .before .before .before in
-    let s = read .before .before .before .before .before .before .before .before .before in
-    let a = s .args in
-    let e = turn (read .number2 .given .0 .0) (read .number2 .given .0 .1 .0) in
-    let there = entry-there (a .u .k) (a .bytes .now) (turned read) in
-    rw (turned read) (
-      read-unit (a .u) (a .place) (replicas s) _ e (there .0) (there .1) (done .play-turn .ensures .0),
-      done .play-turn .ensures .1 ∙ ap (putText (page (a .text .now) (a .used))) (read-text (a .u) (a .place) (replicas s) (replicas s) e (there .0) (there .1)),
-    )
+    rw (turned read) (done .play-turn .ensures)
 
 same-length-11 : tie.Need-same-length-11
 same-length-11 c = search needs
 
 returns-3 : tie.Need-returns-3
+unfolding playRecord
 returns-3 c =
     let put = c .before .before in
     let read = put .before .before .before in
@@ -138,7 +116,7 @@ returns-3 c =
     let a = s .args in
     let refusal : readEntry (a .u .k) (a .bytes .now) ≡ refused (read .number3 .given .0 .0) =
     sym (read .before .before .read-entry .ensures) ∙ ap (entryAnswer (a .bytes .now)) (read .number3 .given .1) in
-    rw (refusal, append-nil (refusalLine (a .place) (read .number3 .given .0 .0))) (refl, put .put-refusal .ensures)
+    rw refusal (refl, put .put-refusal .ensures)
 
 pub play-record-spec : {M : Type 1} → statement M
 play-record-spec =

@@ -1,11 +1,11 @@
-use Prim.Native.Nat.{suc, _-_}
-use mathlib.Core.Path.{_≡_}
+use Prim.Native.Nat.{suc, _+_, _-_}
+use mathlib.Core.Path.{_≡_, ap}
 use native.Mathlib.Omega.{arith}
 use lib.ListN.{replicate}
 use borrow.Author.Needs.{needs}
 use Rattle.limits.specs.Limits.{outputSize}
 use Rattle.rules.specs.Replica.{step}
-use Rattle.transcript.specs.Play.{playEntry}
+use Rattle.transcript.specs.Journal.{playing, playEntry}
 use Rattle.playback.specs.Arrays.{arrays, replicaAt}
 use Rattle.playback.proofs.Plays.{stepped-text}
 use Rattle.playback.proofs.play.play_turn.Statement.{statement}
@@ -54,7 +54,7 @@ returns c =
     let named : suc (a .number - 1) ≡ a .number = omega (arith, s .pre) in
     let said = rw named at (done .step-of .ensures) in
     let replicas = replicaAt (a .u) (arrays (a .pending .now) (a .counts .now) (a .variables .now) (a .writes .now) (a .lasts .now)) in
-    (said .1 .0, rw (← stepped-text (a .u) (a .place) (replicate outputSize 0) (step (replicas (a .number)) (a .at) (replicate outputSize 0)), ← said .0, ← said .1 .1) (put .put-answer .ensures))
+    (ap (playing (a .u) (a .place + 1)) (said .1 .0), rw (← stepped-text (a .u) (a .place) (replicate outputSize 0) (step (replicas (a .number)) (a .at) (replicate outputSize 0)), ← said .0, ← said .1 .1) (put .put-answer .ensures))
 
 pub play-turn-spec : {M : Type 1} → statement M
 play-turn-spec =

@@ -1,6 +1,4 @@
 -- The answer decides between the two.
-use mathlib.Core.List.{append-nil}
-use Rattle.lines.specs.Lines.{refusalLine}
 use borrow.Author.Needs.{needs}
 use Rattle.playback.proofs.play.put_answer.Statement.{statement}
 use Rattle.playback.proofs.play.put_answer.Tie as tie
@@ -27,7 +25,7 @@ same-length-2 : tie.Need-same-length-2
 same-length-2 c = search needs
 
 returns-2 : tie.Need-returns-2
-returns-2 c = rw (c .before .before .before .before .before .answer2 .given .1, append-nil (refusalLine _ _)) (c .before .before .put-refusal .ensures)
+returns-2 c = rw (c .before .before .before .before .before .answer2 .given .1) (c .before .before .put-refusal .ensures)
 
 pub put-answer-spec : {M : Type 1} → statement M
 put-answer-spec =

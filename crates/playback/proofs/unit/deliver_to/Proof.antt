@@ -11,8 +11,8 @@ use Rattle.state.specs.State.{partAt}
 use Rattle.state.proofs.Parts.{part-lent}
 use Rattle.queue.specs.Queue.{placesIn}
 use Rattle.delivery.proofs.Asked.{queue-length, admit-counted}
-use Rattle.playback.specs.Arrays.{arrays, replicaAt}
-use Rattle.playback.proofs.Arrays.{replica-long, replica-kept}
+use Rattle.playback.specs.Arrays.{arrays, stateAt, replicaAt}
+use Rattle.playback.proofs.Arrays.{replica-long, replica-is, replica-kept}
 use Rattle.playback.proofs.unit.deliver_to.Statement.{statement}
 use Rattle.playback.proofs.unit.deliver_to.Tie as tie
 
@@ -20,15 +20,15 @@ use Rattle.playback.proofs.unit.deliver_to.Tie as tie
 admitted : (c : tie.After-admit) (variables writes : List ℕ) →
     let a = c .before .before .before .before .before .before .before .args in
     requestAnswer (c .admit .result) ≡ admit (replicaAt (a .u) (arrays (a .pending .now) (a .counts .now) variables writes (a .lasts .now)) (suc (a .i))) (a .bytes .now) (a .at)
-unfolding replicaAt
 admitted c variables writes =
     let s = c .before .before .before .before .before .before .before in
     let a = s .args in
     let i = a .i in
     let lent = part-lent 4 i (a .counts .now) (4 * i) (4 * i + 4) (omega (arith, s .pre)) (omega (arith, s .pre)) in
-    (rw lent at (c .admit .ensures))
-    ∙ admit-counted (replicaAt (a .u) (arrays (a .pending .now) (a .counts .now) variables writes (a .lasts .now)) (suc i)) (placesIn (partAt 64 i (a .pending .now))) (partAt 4 i (a .counts .now)) refl
-    (replica-long i (a .pending .now) (s .pre .0) (s .pre .1)) (a .bytes .now) (a .at)
+    let old = arrays (a .pending .now) (a .counts .now) variables writes (a .lasts .now) in
+    rw (replica-is (a .u) old i (s .pre .0)) ((rw lent at (c .admit .ensures))
+    ∙ admit-counted (stateAt (a .u) old i) (placesIn (partAt 64 i (a .pending .now))) (partAt 4 i (a .counts .now)) refl
+    (replica-long i (a .pending .now) (s .pre .0) (s .pre .1)) (a .bytes .now) (a .at))
 
 mul-from : tie.Need-mul-from
 mul-from c = search needs
@@ -61,14 +61,14 @@ enum-known-request : tie.Need-enum-known-request
 enum-known-request c = search needs
 
 add-pending-requires : tie.Need-add-pending-requires
-unfolding replicaAt
 add-pending-requires c κs =
     let read = c .before .before .before .before in
     let f = read .before .before in
     let s = f .before .before .before .before .before .before .before in
     let a = s .args in
-    let r = replicaAt (a .u) (arrays (a .pending .now) (a .counts .now) [] [] (a .lasts .now)) (suc (a .i)) in
-    let found = admit-admitted r (a .bytes .now) (a .at) (sym (admitted f [] []) ∙ ap requestAnswer (read .request .given .1)) in
+    let old = arrays (a .pending .now) (a .counts .now) [] [] (a .lasts .now) in
+    let asked = rw (replica-is (a .u) old (a .i) (s .pre .0)) at (admitted f [] []) in
+    let found = admit-admitted (stateAt (a .u) old (a .i)) (a .bytes .now) (a .at) (sym asked ∙ ap requestAnswer (read .request .given .1)) in
     let group = read-group (a .u .k) (a .u .groups) (a .bytes .now) (found .reads) in
     let counted = queue-length (placesIn (partAt 64 (a .i) (a .pending .now))) (partAt 4 (a .i) (a .counts .now)) (read .request .given .0 .0 .group)
     (replica-long (a .i) (a .pending .now) (s .pre .0) (s .pre .1)) (group .0) (group .1) in
@@ -106,7 +106,7 @@ returns-2 c =
     let f = c .before .before .before in
     let a = f .before .before .before .before .before .before .before .args in (
       λ variables writes. rw (← admitted f variables writes, c .before .number .given .1) refl,
-      λ variables writes. rw (← admitted f variables writes, c .before .number .given .1) (replica-kept (a .u) (arrays (a .pending .now) (a .counts .now) variables writes (a .lasts .now)) (a .i)),
+      λ variables writes. rw (← admitted f variables writes, c .before .number .given .1) (replica-kept (a .u) (arrays (a .pending .now) (a .counts .now) variables writes (a .lasts .now)) (a .i) (f .before .before .before .before .before .before .before .pre .0)),
     )
 
 pub deliver-to-spec : {M : Type 1} → statement M
