@@ -1,25 +1,46 @@
--- As many as were moved stand in front, and those not yet moved stand where they stood.
-use Prim.Native.Nat.{ℕ, _+_, _-_, _≤_, _<_, min}
-use mathlib.Core.Path.{_≡_, refl, sym, ap, _∙_}
+-- As many as were moved stand in front, and all others stand where they stood.
+use Prim.Native.Nat.{ℕ, suc, _+_, _-_, _≤_, _<_, min}
+use mathlib.Core.Path.{_≡_, refl, sym, _∙_}
 use mathlib.Core.List.{List, [], _∷_, _++_}
 use native.Mathlib.Numerals.{add-one}
 use native.Mathlib.Omega.{arith}
 use lib.Dec.{leb}
-use lib.ListN.{length, getD, take, drop, length-set, length-take, length-drop}
-use lib.Seq.{take-all, take-suc, take-suc-set, getD-drop}
+use lib.ListN.{length, getD, set, take, drop, length-set, length-take, length-drop}
+use lib.Seq.{length-take-le, take-all, take-suc, drop-cons, append-snoc, getD-append-add, getD-drop, set-at}
 use borrow.Author.Tests.{leb-true, leb-false}
 use borrow.Author.Needs.{needs}
 use Rattle.question.proofs.Tests.{case}
-use Rattle.batch.proofs.Compact.{next-same, rest-same}
 use Rattle.playback.proofs.left.keep_left.Statement.{statement}
 use Rattle.playback.proofs.left.keep_left.Tie as tie
 
+-- the first i were moved
+abbrev moved : List ℕ → ℕ → ℕ → List ℕ
+moved old from i = take i (drop from old) ++ drop i old
+
+module _ (old : List ℕ) (from i : ℕ) (far : from + i < length old) where
+  abbrev front : List ℕ
+  front = take i (drop from old)
+
+  abbrev x : ℕ
+  x = getD old (from + i) 0
+
+  long : length front ≡ i
+  long = length-take-le i (drop from old) (omega (arith, length-drop from old))
+
+  -- the next one stands where it stood
+  there : getD (moved old from i) (from + i) 0 ≡ x
+  there =
+      let at : from + i ≡ length front + from = omega (arith, long) in
+      let same : i + from ≡ from + i = omega arith in
+      rw at (getD-append-add front (drop i old) from 0 ∙ getD-drop i old from 0 ∙ rw (same, at))
+
+  moved-next : set (moved old from i) i (getD (moved old from i) (from + i) 0) ≡ moved old from (i + 1)
+  moved-next =
+      let more : take (suc i) (drop from old) ≡ front ++ (x ∷ []) = rw (← getD-drop from old i 0) (take-suc (drop from old) i 0 (omega (arith, length-drop from old))) in
+      rw (there, drop-cons old i 0 (omega arith), set-at front (getD old i 0) (drop (suc i) old) x i long, add-one i, more) (sym (append-snoc front x (drop (suc i) old)))
+
 abbrev Inv-loop : tie.InvT-loop
-Inv-loop block₀ from to end n i₀ block i =
-    (i ≤ n)
-    × (length block ≡ length block₀)
-    × (drop (from + i) block ≡ drop (from + i) block₀)
-    × (take i block ≡ take i (drop from block₀))
+Inv-loop block₀ from to end n i₀ block i = (i ≤ n) × (length block ≡ length block₀) × (block ≡ moved block₀ from i)
 
 abbrev μ-loop : tie.MeasureT-loop
 μ-loop block₀ from to end n i₀ block i = n - i
@@ -45,13 +66,13 @@ returns c =
     let a = s .args in
     let left = take (a .to - a .from) (drop (a .from) (a .block .now)) in
     let none : length left ≡ 0 = omega (arith, c .before .at-most .ensures, length-take (a .to - a .from) (drop (a .from) (a .block .now)), length-drop (a .from) (a .block .now)) in
-    (sym none, sym (empty left none))
+    (sym none, rw (empty left none))
 
 sub-n : tie.Need-sub-n Inv-loop μ-loop
 sub-n c = search needs
 
 loop-holds : tie.Need-loop-holds Inv-loop μ-loop
-loop-holds c = (omega arith, refl, refl, refl)
+loop-holds c = (omega arith, refl, refl)
 
 add-block : tie.Need-add-block Inv-loop μ-loop
 add-block c = search needs
@@ -72,18 +93,10 @@ loop-again : tie.Need-loop-again Inv-loop μ-loop
 loop-again c =
     let l = c .before .before in
     let a = l .before .before .before .before .args in
-    let m = l .loop .block in
-    let old = a .block .now in
-    let i = l .loop .i in
-    let inv = l .loop .inv in
-    let x = getD m (a .from + i) 0 in
-    let far : a .from + i < length old = omega (arith, l .before .before .at-most .ensures) in
-    let same : x ≡ getD (drop (a .from) old) i 0 = next-same old m (a .from + i) (inv .2) 0 ∙ sym (getD-drop (a .from) old i 0) in
-    let later : a .from + (i + 1) ≡ a .from + i + 1 = omega arith in (
+    let inv = l .loop .inv in (
       omega arith,
       simp length-set (inv .1),
-      rw later (rest-same old m (a .from + i) (inv .2) i x (omega arith)),
-      rw (add-one i, take-suc-set m i x (omega (arith, inv .1)), take-suc (drop (a .from) old) i 0 (omega (arith, length-drop (a .from) old)), ← same) (ap (λ front. front ++ (x ∷ [])) (inv .3)),
+      rw (inv .2) (moved-next (a .block .now) (a .from) (l .loop .i) (omega (arith, l .before .before .at-most .ensures))),
     )
 
 same-length : tie.Need-same-length Inv-loop μ-loop
@@ -97,7 +110,7 @@ returns-2 c =
     let n = l .before .before .at-most .result - a .from in
     let count : n ≡ min (a .to - a .from) (length behind) = omega (arith, l .before .before .at-most .ensures, length-drop (a .from) (a .block .now)) in
     let all : l .loop .i ≡ n = omega arith in
-    (omega (arith, count, length-take (a .to - a .from) behind), (rw all at (l .loop .inv .3)) ∙ take-count (a .to - a .from) n behind count)
+    (omega (arith, count, length-take (a .to - a .from) behind), rw (← take-count (a .to - a .from) n behind count) (rw all at (l .loop .inv .2)))
 
 pub keep-left-spec : {M : Type 1} → statement M
 keep-left-spec =
