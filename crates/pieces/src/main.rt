@@ -21,7 +21,7 @@ fn open(name: &[u8]) -> i32 {
     os::open_read(name)
 }
 
-// Whether all of it was read and written. `number` is that of its first piece.
+// Whether all of it was read and written. `number` is that of its first call.
 fn play_named(name: &[u8], number: usize) -> bool {
     let file = open(name);
     if file < 0 {
@@ -36,7 +36,7 @@ fn play_named(name: &[u8], number: usize) -> bool {
     ok
 }
 
-// The number of the argument is that of the first piece, so that each journal is cut elsewhere.
+// The number of the argument is that of the first call.
 fn play_argument(i: usize) -> bool {
     let mut name = io::buffer();
     let length = os::arg(i, &mut name);

@@ -1,11 +1,11 @@
-// A journal played from a file, piece by piece.
+// A journal played piece by piece: each call is lent some bytes of what is left of the input, and a text
+// with some room, as the theorem of the cuts has it (crates/transcript/proofs/Cuts.antt).
+ghost use Prim.Native.Nat.{_≤_};
 ghost use mathlib.Core.Path.{_≡_};
-ghost use Prim.Native.Nat.{_+_, _≤_};
 ghost use lib.ListN.{length};
 use crate::output::report;
 use crate::output::write_first;
 use crate::tables::TEXT;
-use crate::tables::first_call;
 use crate::tables::piece_size;
 use crate::tables::text_room;
 use limits::ENTRY;
@@ -16,35 +16,24 @@ use limits::UNIT_VARIABLES;
 use limits::at_most;
 use playback::Stage;
 
-// Room for the largest piece and what is held before it.
-const BLOCK: usize = 32000;
+// The longest journal has fewer bytes than this.
+const INPUT: usize = 131072;
 
-// A piece has at most 751 whole records, and of five calls one may take nothing: these never run out.
-const CALLS: usize = 2000;
+// In forty calls each size meets each room, so that these never run out.
+const CALLS: usize = 1000000;
 
-// So many pieces are read at most.
-const PIECES: usize = 1000000000;
-
-fn has_stopped(stage: Stage) -> bool {
-    match stage {
-        Stage::First => false,
-        Stage::Playing(_, _) => false,
-        Stage::Stopped => true,
-    }
-}
-
-// How far the records of a piece have come; `ok` where all text was written.
+// How far a call came; `ok` where its text was written.
 pub struct Playing {
     pub stage: Stage,
     pub taken: usize,
     pub ok: bool,
 }
 
-// One call, with the room of its number, and its text.
-fn play_call(
+// One call, with the size and the room of its number, and its text.
+fn play_piece(
     call: usize,
     stage: Stage,
-    block: &[u8],
+    left: &[u8],
     pending: &mut [[u64; 4]; UNIT_PLACES],
     counts: &mut [usize; UNIT_QUEUES],
     variables: &mut [u32; UNIT_VARIABLES],
@@ -53,12 +42,13 @@ fn play_call(
     text: &mut [u8],
 ) -> Playing
     requires { ⌜ length (now text) ≡ 65536 ⌝ }
-    ensures { λ p. ⌜ p .taken ≤ length (now (block .entry)) ⌝ }
+    ensures { λ p. ⌜ p .taken ≤ length (now (left .entry)) ⌝ }
 {
+    let size = at_most(left.len(), piece_size(call));
     let room = text_room(call);
     let b = playback::play_block(
         stage,
-        block,
+        &left[0..size],
         pending,
         counts,
         variables,
@@ -75,155 +65,31 @@ fn play_call(
     }
 }
 
-// All whole records of a block. A call that takes nothing is not the last: its room may be too small.
-fn play_all(
-    first: usize,
-    from: Stage,
-    block: &[u8],
-    pending: &mut [[u64; 4]; UNIT_PLACES],
-    counts: &mut [usize; UNIT_QUEUES],
-    variables: &mut [u32; UNIT_VARIABLES],
-    writes: &mut [u64; MAX_REPLICAS],
-    lasts: &mut [u64; MAX_REPLICAS],
-    text: &mut [u8],
-) -> Playing
-    requires { ⌜ length (now text) ≡ 65536 ⌝ }
-    ensures { λ p. ⌜ p .taken ≤ length (now (block .entry)) ⌝ }
-{
-    let mut stage = from;
-    let mut taken: usize = 0;
-    let mut ok = true;
-    let mut going = true;
-    let mut call = first;
-    while call < CALLS && going {
-        let p = play_call(
-            call,
-            stage,
-            &block[taken..],
-            pending,
-            counts,
-            variables,
-            writes,
-            lasts,
-            text,
-        );
-        stage = p.stage;
-        taken += p.taken;
-        ok = p.ok;
-        going = ok & (ENTRY <= block.len() - taken) & !has_stopped(stage);
-        call += 1;
-    }
-    Playing { stage, taken, ok }
-}
-
-// What a read gave: how many bytes, none at the end of the input.
-pub struct Got {
-    pub count: usize,
-    pub failed: bool,
-}
-
-// One read of at most `size` bytes, behind the bytes that are held.
-fn read_piece(file: i32, block: &mut [u8], held: usize, size: usize) -> Got
-    requires { ⌜ (length (now block) ≡ 32000) × (held ≤ 32000) ⌝ }
-    ensures { λ g. ⌜ held + g .count ≤ 32000 ⌝ }
-{
-    let end = held + at_most(BLOCK - held, size);
-    let got = libc::read(file, &mut block[held..end]);
-    if got < 0 {
-        return Got {
-            count: 0,
-            failed: true,
-        };
-    }
-    Got {
-        count: io::count(got, &block[held..end]),
-        failed: false,
+// Whether the calls are over: no whole record is left, or the first one was refused.
+fn is_over(stage: Stage, left: usize) -> bool {
+    match stage {
+        Stage::First => left < ENTRY,
+        Stage::Playing(_, _) => left < ENTRY,
+        Stage::Stopped => true,
     }
 }
 
-// What is held after the records of a piece: the bytes that are no whole record.
-pub struct Held {
-    pub stage: Stage,
-    pub count: usize,
-    pub ok: bool,
-}
-
-fn play_piece(
-    first: usize,
-    stage: Stage,
-    block: &mut [u8],
-    filled: usize,
-    pending: &mut [[u64; 4]; UNIT_PLACES],
-    counts: &mut [usize; UNIT_QUEUES],
-    variables: &mut [u32; UNIT_VARIABLES],
-    writes: &mut [u64; MAX_REPLICAS],
-    lasts: &mut [u64; MAX_REPLICAS],
-    text: &mut [u8],
-) -> Held
-    requires { ⌜ (length (now block) ≡ 32000) × (filled ≤ 32000) × (length (now text) ≡ 65536) ⌝ }
-    ensures { λ h. ⌜ h .count ≤ 32000 ⌝ }
-{
-    let p = play_all(
-        first,
-        stage,
-        &block[0..filled],
-        pending,
-        counts,
-        variables,
-        writes,
-        lasts,
-        text,
-    );
-    let count = playback::keep_left(block, p.taken, filled);
-    let next = p.stage;
-    Held {
-        stage: next,
-        count,
-        ok: p.ok,
-    }
-}
-
-// The end of the input.
-fn finish(
-    stage: Stage,
-    block: &[u8],
-    held: usize,
-    variables: &[u32; UNIT_VARIABLES],
-    writes: &[u64; MAX_REPLICAS],
-    text: &mut [u8],
-) -> bool
-    requires { ⌜ (length (now block) ≡ 32000) × (held ≤ 32000) ⌝ }
-{
-    let used = playback::play_end(stage, &block[0..held], variables, writes, text);
-    write_first(text, used)
-}
-
-// Whether all of it was read and written. After a refused first record nothing more is read.
-pub(crate) fn play_journal(file: i32, number: usize) -> bool {
+// The number is that of the first call, so that each journal is cut elsewhere.
+fn play_input(input: &[u8], number: usize) -> bool {
     let mut pending = [[0u64; 4]; UNIT_PLACES];
     let mut counts = [0usize; UNIT_QUEUES];
     let mut variables = [0u32; UNIT_VARIABLES];
     let mut writes = [0u64; MAX_REPLICAS];
     let mut lasts = [0u64; MAX_REPLICAS];
-    let mut block = [0u8; BLOCK];
     let mut text = [0u8; TEXT];
     let mut stage = Stage::First;
-    let mut held: usize = 0;
-    let mut piece = number;
-    while piece < PIECES {
-        let got = read_piece(file, &mut block, held, piece_size(piece));
-        if got.failed {
-            report(b"pieces: cannot read\n");
-            return false;
-        }
-        if got.count == 0 {
-            return finish(stage, &block, held, &variables, &writes, &mut text);
-        }
-        let next = play_piece(
-            first_call(piece),
+    let mut taken: usize = 0;
+    let mut call = number;
+    while call < CALLS && !is_over(stage, input.len() - taken) {
+        let p = play_piece(
+            call,
             stage,
-            &mut block,
-            held + got.count,
+            &input[taken..],
             &mut pending,
             &mut counts,
             &mut variables,
@@ -231,12 +97,24 @@ pub(crate) fn play_journal(file: i32, number: usize) -> bool {
             &mut lasts,
             &mut text,
         );
-        stage = next.stage;
-        held = next.count;
-        if !next.ok | has_stopped(stage) {
-            return next.ok;
+        if !p.ok {
+            return false;
         }
-        piece += 1;
+        stage = p.stage;
+        taken += p.taken;
+        call += 1;
     }
-    false
+    let used = playback::play_end(stage, &input[taken..], &variables, &writes, &mut text);
+    write_first(&text, used)
+}
+
+// Whether all of it was read and written.
+pub(crate) fn play_journal(file: i32, number: usize) -> bool {
+    let mut input = [0u8; INPUT];
+    let count = io::read_full(file, &mut input);
+    if count == INPUT {
+        report(b"pieces: too long a journal\n");
+        return false;
+    }
+    play_input(&input[0..count], number)
 }

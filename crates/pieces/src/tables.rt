@@ -12,19 +12,14 @@ const SIZES: [usize; 8] = [1, 39, 40, 41, 7, 119, 1000, 30011];
 // The lines of a record may take 8,844 bytes: with one less a call must take nothing.
 const ROOMS: [usize; 5] = [8844, 8843, 9000, 20000, TEXT];
 
-// The bytes that piece i asks for.
+// The bytes that call i is lent, where so many are left.
 pub(crate) fn piece_size(i: usize) -> usize {
     SIZES[i % 8]
 }
 
-// The room that call i lends.
+// The room of its text.
 pub(crate) fn text_room(i: usize) -> usize
     ensures { λ n. ⌜ n ≤ 65536 ⌝ }
 {
     at_most(TEXT, ROOMS[i % 5])
-}
-
-// The number of the first call of piece i, so that the pieces start at unlike rooms.
-pub(crate) fn first_call(i: usize) -> usize {
-    i % 5
 }

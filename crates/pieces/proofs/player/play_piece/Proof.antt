@@ -1,48 +1,76 @@
-use Prim.Native.Nat.{_-_, _≤_}
+-- A call takes no more than it is lent.
+use Prim.Native.Nat.{ℕ, _-_, _≤_}
+use mathlib.Core.Path.{_≡_}
+use mathlib.Core.List.{List}
 use native.Mathlib.Omega.{arith}
-use lib.ListN.{drop, length-take}
+use lib.ListN.{length, take, length-take}
+use Rattle.transcript.specs.Journal.{Unit}
+use Rattle.transcript.specs.Blocks.{playBlock}
+use Rattle.transcript.proofs.Block.{taken-within}
 use borrow.Author.Needs.{needs}
 use Rattle.pieces.proofs.player.play_piece.Statement.{statement}
 use Rattle.pieces.proofs.player.play_piece.Tie as tie
 
-sub-play-all : tie.Need-sub-play-all
-sub-play-all c = search needs
+bounded : (room : ℕ) (unit : Unit) (size : ℕ) (left : List ℕ) {taken : ℕ} → taken ≡ playBlock room unit (take size left) .taken → taken ≤ length left
+bounded room unit size left e = omega (arith, e, taken-within room unit (take size left), length-take size left)
 
-part-play-all-start : tie.Need-part-play-all-start
-part-play-all-start c = search needs
+piece-size-requires : tie.Need-piece-size-requires
+piece-size-requires c κs = search needs
 
-part-play-all-end : tie.Need-part-play-all-end
-part-play-all-end c = search needs
+at-most-requires : tie.Need-at-most-requires
+at-most-requires c κs = search needs
 
-play-all-requires : tie.Need-play-all-requires
-play-all-requires c κs = search needs
+text-room-requires : tie.Need-text-room-requires
+text-room-requires c κs = search needs
 
-keep-left-requires : tie.Need-keep-left-requires
-keep-left-requires c κs = search needs
+sub-play-block : tie.Need-sub-play-block
+sub-play-block c = search needs
+
+part-play-block-start : tie.Need-part-play-block-start
+part-play-block-start c = search needs
+
+part-play-block-end : tie.Need-part-play-block-end
+part-play-block-end c = search needs
+
+sub-play-block-2 : tie.Need-sub-play-block-2
+sub-play-block-2 c = search needs
+
+part-play-block-start-2 : tie.Need-part-play-block-start-2
+part-play-block-start-2 c = search needs
+
+part-play-block-end-2 : tie.Need-part-play-block-end-2
+part-play-block-end-2 c = search needs
+
+play-block-requires : tie.Need-play-block-requires
+play-block-requires c κs = search needs
+
+write-first-requires : tie.Need-write-first-requires
+write-first-requires c κs = search needs
 
 same-length : tie.Need-same-length
 same-length c = search needs
 
-same-length-2 : tie.Need-same-length-2
-same-length-2 c = search needs
-
 returns : tie.Need-returns
 returns c =
-    let kept = c .before .before in
-    let played = kept .before .before .before .before in
-    let s = played .before .before .before .before .before .before .before .before .before .before .before in
-    let p = played .play-all .result in
-    omega (arith, s .pre .1, kept .keep-left .ensures .0, length-take (s .args .filled - p .taken) (drop (p .taken) (s .args .block .now)))
+    let done = c .before .before .before .before in
+    let cut = done .before .before .before .before .before .before .before .before .before in
+    let s = cut .before .before .before .before in
+    bounded _ _ (cut .at-most .result - 0) (s .args .left .now) (done .play-block .ensures .0 .1)
 
 pub play-piece-spec : {M : Type 1} → statement M
 play-piece-spec =
     tie.close
     (tie.spec
-    sub-play-all
-    part-play-all-start
-    part-play-all-end
-    play-all-requires
-    keep-left-requires
+    piece-size-requires
+    at-most-requires
+    text-room-requires
+    sub-play-block
+    part-play-block-start
+    part-play-block-end
+    sub-play-block-2
+    part-play-block-start-2
+    part-play-block-end-2
+    play-block-requires
+    write-first-requires
     same-length
-    same-length-2
     returns)
