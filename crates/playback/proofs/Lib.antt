@@ -4,3 +4,4 @@ pub mod Recorded
 pub mod Loop
 pub mod New
 pub mod Cards
+pub mod Called

@@ -102,6 +102,9 @@ records-within (suc most) room unit block =
 pub taken-within : (room : ℕ) (unit : Unit) (block : List ℕ) → playBlock room unit block .taken ≤ length block
 taken-within room unit block = records-within (length block) room unit block
 
+pub taken-lent : (room : ℕ) (unit : Unit) (block : List ℕ) {taken : ℕ} → taken ≡ playBlock room unit block .taken → taken ≤ length block
+taken-lent room unit block e = omega (arith, e, taken-within room unit block)
+
 -- a call that is lent a whole record, and room for its lines, takes it
 pub block-takes : (room : ℕ) (unit : Unit) (block : List ℕ) → entrySize ≤ length block → goesOn room unit ≡ true
     → entrySize ≤ playBlock room unit block .taken

@@ -84,17 +84,24 @@ block-plays (suc most) room unit block rest =
 
 -- ── the calls, and the end ──
 
+-- one call on the first bytes of an input
+pub call-plays : (size room : ℕ) (unit : Unit) (input : List ℕ) →
+    let done = playBlock room unit (take size input) in
+    done .text ++ playAll (done .unit) (recordsOf (drop (done .taken) input)) ≡ playAll unit (recordsOf input)
+call-plays size room unit input =
+    let block = take size input in
+    rw take-append-drop at (block-plays (length block) room unit block (drop size input))
+
 calls-play : (calls : List Call) (unit : Unit) (input : List ℕ) →
     let p = playCalls calls unit input in
     p .text ++ playAll (p .unit) (recordsOf (p .left)) ≡ playAll unit (recordsOf input)
 unfolding playCalls
 calls-play [] unit input = refl
 calls-play (c ∷ calls) unit input =
-    let block = take (c .size) input in
-    let done = playBlock (c .room) unit block in
+    let done = playBlock (c .room) unit (take (c .size) input) in
     let more = playCalls calls (done .unit) (drop (done .taken) input) in
     rw (append-assoc (done .text) (more .text) (playAll (more .unit) (recordsOf (more .left))), calls-play calls (done .unit) (drop (done .taken) input))
-    (rw take-append-drop at (block-plays (length block) (c .room) unit block (drop (c .size) input)))
+    (call-plays (c .size) (c .room) unit input)
 
 -- the unit stopped, or no whole record is left
 over-cases : (unit : Unit) (left : List ℕ) → isOver unit left ≡ true → (unit ≡ stopped) ⊎ (length left < entrySize)
@@ -127,7 +134,7 @@ short-end unit (b ∷ rest) short =
     ap (playAll unit) (records-next (b ∷ rest) (omega arith))
     ∙ rw (take-all entrySize (b ∷ rest) (omega arith), drop-of-length-le (b ∷ rest) {i = entrySize} (omega arith), part-played unit (b ∷ rest) short)
 
-end-plays : (unit : Unit) (left : List ℕ) → isOver unit left ≡ true → playAll unit (recordsOf left) ≡ playEnd unit left
+pub end-plays : (unit : Unit) (left : List ℕ) → isOver unit left ≡ true → playAll unit (recordsOf left) ≡ playEnd unit left
 end-plays unit left over = ⊎-elim
     (λ (e : unit ≡ stopped). rw e (stopped-silent (recordsOf left) ∙ sym (stopped-end left)))
     (short-end unit left)

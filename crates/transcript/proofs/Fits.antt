@@ -27,7 +27,7 @@ use Rattle.laws.proofs.Step.{step-accepted}
 use Rattle.entry.specs.Entry.{Entry, delivery, turn, settingsIn, setupQuestions, readSetup, readEntry}
 use Rattle.lines.specs.Lines.{refusalLine}
 use Rattle.transcript.specs.Journal.{Unit, fresh, playing, stopped, playSetup, replicaFor, playEntry, linesOf, playRead, playRecord, cardLines}
-use Rattle.transcript.specs.Blocks.{linesSize, wholeEntries, goesOn, playRecords, playBlock, playPart, playEnd}
+use Rattle.transcript.specs.Blocks.{linesSize, wholeEntries, goesOn, playRecords, playBlock, playPart, endSize, playEnd}
 use Rattle.lines.proofs.Room.{messages-short, refusal-short, cards-short}
 
 -- ── what a step counts ──
@@ -195,7 +195,7 @@ part-k fresh = omega arith
 part-k (playing u place replicas) = omega arith
 part-k stopped = omega arith
 
-pub end-fits : (unit : Unit) (left : List ℕ) → kIn unit ≤ maxK → length (playEnd unit left) ≤ 45 + 476
+pub end-fits : (unit : Unit) (left : List ℕ) → kIn unit ≤ maxK → length (playEnd unit left) ≤ endSize
 unfolding playEnd
 end-fits unit [] small = omega (arith, cards-within unit small)
 end-fits unit (b ∷ rest) small =

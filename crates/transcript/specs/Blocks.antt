@@ -4,7 +4,7 @@ use mathlib.Core.Bool.{Bool, true, false, cond, _&&_}
 use mathlib.Core.List.{List, [], _∷_, _++_}
 use lib.Dec.{leb, ltb}
 use lib.ListN.{length, take, drop}
-use Rattle.limits.specs.Limits.{entrySize, maxSent, maxPlace}
+use Rattle.limits.specs.Limits.{maxReplicas, entrySize, maxSent, maxPlace}
 use Rattle.question.specs.Question.{refused}
 use Rattle.transcript.specs.Journal.{Unit, fresh, playing, stopped, Printed, playSetup, playRead, playRecord, cardLines}
 
@@ -76,6 +76,10 @@ abbrev pub playPart : Unit → Printed
 playPart fresh = playSetup (refused 18)
 playPart (playing u place replicas) = playRead u place replicas (refused 18)
 playPart stopped = record { unit = stopped; text = [] }
+
+-- the most that the end prints: 45 bytes for that, and 68 for each of seven replicas
+abbrev pub endSize : ℕ
+endSize = 45 + maxReplicas * 68
 
 -- the end of the input: that, unless nothing is left, and a line for each replica
 unfoldable pub playEnd : Unit → List ℕ → List ℕ

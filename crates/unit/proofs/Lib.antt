@@ -7,5 +7,6 @@ pub mod Lives
 pub mod Instances
 pub mod Edges
 pub mod Isolation
+pub mod Journal
 -- refusal numbers
 pub mod Numbers

@@ -1,3 +1,4 @@
 pub mod Life
 pub mod Unit
 pub mod Isolation
+pub mod Journal

@@ -37,7 +37,7 @@ within c =
     let block = l .before .before .args .block .now in
     let left = length block - l .loop .taken in
     let lent = take left (drop (l .loop .taken) block) in
-    let most : c .play-block .result .taken ≤ length lent = bounded _ _ lent (c .play-block .ensures .1 .0) in
+    let most : c .play-block .result .taken ≤ length lent = bounded _ _ lent (c .play-block .ensures .0 .1) in
     omega (arith, most, length-take left (drop (l .loop .taken) block))
 
 loop-holds : tie.Need-loop-holds Inv-loop μ-loop
