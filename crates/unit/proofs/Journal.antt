@@ -23,7 +23,7 @@ use Rattle.playback.proofs.Called.{plays-mean, end-means}
 use Rattle.unit.specs.Journal.{Prints, block, end, JournalOfCode}
 
 -- a piece that fits stands at the start of the text, and is all that is used of it
-written : (text piece : List ℕ) {text′ : List ℕ} {used : ℕ} → length piece ≤ length text → page text′ used ≡ putText (page text 0) piece
+pub written : (text piece : List ℕ) {text′ : List ℕ} {used : ℕ} → length piece ≤ length text → page text′ used ≡ putText (page text 0) piece
     → take used text′ ≡ piece
 written text piece {text′} {used} fits put =
     let is = rw (zero-add (length piece)) at (put ∙ put-room (page text 0) piece (omega arith)) in

@@ -8,5 +8,6 @@ pub mod Instances
 pub mod Edges
 pub mod Isolation
 pub mod Journal
+pub mod Played
 -- refusal numbers
 pub mod Numbers
