@@ -332,6 +332,11 @@ impl Unit {
         }
     }
 
+    /// Whether the arrays hold what those of another unit hold.
+    pub fn same_arrays(&self, other: &Unit) -> bool {
+        *self == Unit { player: self.player, ..other.clone() }
+    }
+
     /// Whether all that stands beside the arrays is as it was.
     pub fn keeps_margins(&self) -> bool {
         self.pending.keeps_margins()

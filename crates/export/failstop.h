@@ -124,8 +124,9 @@ failstop_value_result failstop_count_halts(
 /* Journals in blocks. The arrays hold seven replicas side by side, replica 1's part first; those of a unit are the
    first 2k + 1. Of each there are 64 rows, as the places of failstop_replica, four counts, 256 variables, the number
    of writes, and the last local time. A row is four words: the timestamp, the arrival, kind + 256 * group +
-   65,536 * process + 16,777,216 * variable, and the value. A setup clears what it needs of the arrays, so they may
-   hold anything before it.
+   65,536 * process + 16,777,216 * variable, and the value; rows at and past a count are free. A setup makes all seven
+   replicas new, so the arrays may hold anything before it; those past 2k + 1 stay so. Where no unit is set up after a
+   call, the arrays are as they were.
 
    Plays the whole 40-byte records of a block, one after another, until they are used up, fewer than 8,844 bytes of
    the text are free, the unit has stopped, or the place is 2^64 - 1. The rest of the text stays as it was. What was

@@ -10,6 +10,7 @@ use crate::difference::Difference;
 use crate::ffi;
 use crate::model::blocks::{LAST_PLACE, TEXT_ROOM};
 use crate::model::journal::{play_bytes, Player, ENTRY_SIZE};
+use crate::model::{PENDING_LIMIT, QUEUES, QUEUE_LIMIT, VARIABLES};
 use crate::random::Random;
 
 /// More room than any call needs.
@@ -99,15 +100,16 @@ impl<'a> Pair<'a> {
         let mut text = Vec::new();
         let taken = self.model.play_block(block, room, &mut text);
         self.note(stopped, block.len() - taken, taken, tally);
-        let before = (taken == 0).then(|| self.other.clone());
+        let before = self.other.clone();
         let mut lent = Lent::new(room, random);
         let found = self.other.play_block(block, lent.lend());
         same("bytes taken", taken, found.0, || self.input())?;
         same_lines(&text, found.1, &mut lent, || self.input())?;
         self.same_player()?;
-        if let Some(before) = before {
+        if taken == 0 {
             same("nothing taken, nothing changed", true, before == self.other, || self.input())?;
         }
+        self.same_beyond(&before)?;
         self.text.extend(text);
         Ok(taken)
     }
@@ -116,6 +118,23 @@ impl<'a> Pair<'a> {
     fn same_player(&self) -> Outcome {
         same("player", to_player(&self.model), self.other.player, || self.input())?;
         same("beside the arrays", true, self.other.keeps_margins(), || self.input())
+    }
+
+    /// Where no unit is set up the arrays are as they were; else the replicas past
+    /// the unit's are, or new after the setup. What is pending no more is free.
+    fn same_beyond(&self, before: &ffi::Unit) -> Outcome {
+        let now = &self.other;
+        if now.player.stage != 1 {
+            let kept = now.same_arrays(before);
+            return same("no unit, the arrays stay", true, kept, || self.input());
+        }
+        let setup = before.player.stage == 0;
+        for place in 2 * usize::from(now.player.settings.k) + 1..ffi::REPLICAS {
+            let new = of_replica(now, place).iter().all(|number| *number == 0);
+            let kept = of_replica(now, place) == of_replica(before, place);
+            same("past the unit", true, if setup { new } else { kept }, || self.input())?;
+        }
+        Ok(())
     }
 
     /// Counts what was played, and why no more.
@@ -167,6 +186,18 @@ impl<'a> Pair<'a> {
     fn input(&self) -> String {
         format!("{}\nbytes and room of each block: {:?}", describe(self.journal), self.calls)
     }
+}
+
+/// What stands of a replica in the arrays, but for rows that are free: a count past
+/// the places means all of them.
+fn of_replica(unit: &ffi::Unit, place: usize) -> Vec<u64> {
+    let counts = &unit.counts.cells()[QUEUES * place..][..QUEUES];
+    let rows = unit.pending.cells()[PENDING_LIMIT * place..].chunks_exact(QUEUE_LIMIT).zip(counts);
+    let pending = rows.flat_map(|(rows, &count)| rows[..count.min(QUEUE_LIMIT)].as_flattened());
+    let variables = &unit.variables.cells()[VARIABLES * place..][..VARIABLES];
+    let numbers = counts.iter().map(|&count| count as u64).chain(pending.copied());
+    let numbers = numbers.chain(variables.iter().map(|&value| value.into()));
+    numbers.chain([unit.writes.cells()[place], unit.lasts.cells()[place]]).collect()
 }
 
 /// The used bytes must be the text, the others as they were.

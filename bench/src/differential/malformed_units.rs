@@ -100,8 +100,7 @@ fn block(unit: &mut ffi::Unit, block: &[u8], random: &mut Random, tally: &mut Ta
     same("something taken", plays, taken > 0, input)?;
     if !plays {
         same("nothing used", 0, used, input)?;
-        let still = ffi::Unit { player: unit.player, ..before };
-        same("the arrays stay", true, still == *unit, input)?;
+        same("the arrays stay", true, unit.same_arrays(&before), input)?;
     }
     let records = (taken / ENTRY_SIZE) as u64;
     let expected = match p.stage {

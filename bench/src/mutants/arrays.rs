@@ -25,16 +25,30 @@ impl Arrays<'_> {
         })
     }
 
-    /// Puts the replicas of a unit back, in a setup all that is theirs.
+    /// Puts the replicas of a unit back; in a setup all others are new.
     pub fn store(&mut self, unit: &Unit, setup: bool) {
+        let kept = *self.writes;
+        if setup && !is(Mutant::OthersNotCleared) {
+            self.clear();
+        }
+        if !setup && is(Mutant::OthersChanged) && unit.replicas.len() < ffi::REPLICAS {
+            self.writes[ffi::REPLICAS - 1] = 1;
+        }
         for replica in &unit.replicas {
             let place = usize::from(replica.number) - 1;
-            let kept = self.writes[place];
             self.put(replica, place);
             if setup && is(Mutant::WritesNotCleared) {
-                self.writes[place] = kept;
+                self.writes[place] = kept[place];
             }
         }
+    }
+
+    /// Makes all replicas new; what is pending no more is free.
+    fn clear(&mut self) {
+        self.counts.fill(0);
+        self.variables.fill(0);
+        self.writes.fill(0);
+        self.lasts.fill(0);
     }
 
     fn get(&self, settings: ffi::Settings, number: u8) -> ffi::Replica {

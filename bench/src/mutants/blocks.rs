@@ -28,6 +28,9 @@ pub fn play_block(
     if is(Mutant::TextBehindCleared) {
         text[lines.len()..].fill(0);
     }
+    if is(Mutant::RefusedSetupClears) && p.stage == 0 && player.stopped() {
+        arrays.writes.fill(0);
+    }
     let mut after = to_player(&player);
     if is(Mutant::SettingsKept) && after.stage == 2 {
         after.settings = p.settings;

@@ -79,6 +79,9 @@ pub enum Mutant {
     SettingsKept,
     StageSetUp,
     AnyK,
+    RefusedSetupClears,
+    OthersNotCleared,
+    OthersChanged,
 }
 
 /// Whether the units of `simulation` and the pairs of `isolation` show a mutant.
@@ -94,7 +97,7 @@ const PAIRS: Shown = Shown { in_simulation: false, in_isolation: true };
 const BOTH: Shown = Shown { in_simulation: true, in_isolation: true };
 
 /// For each mutant its bug, and where it shows.
-pub const MUTANTS: [(Mutant, &str, Shown); 74] = [
+pub const MUTANTS: [(Mutant, &str, Shown); 77] = [
     (Mutant::StableAtEquality, "a batch is stable exactly delta after its first arrival", UNITS),
     (Mutant::LatestArrival, "stability counts from the latest arrival", NEITHER),
     (Mutant::UnstableSkipped, "an unstable batch is skipped to serve a later timestamp", UNITS),
@@ -173,6 +176,9 @@ pub const MUTANTS: [(Mutant, &str, Shown); 74] = [
     (Mutant::SettingsKept, "a unit that stopped keeps its settings", NEITHER),
     (Mutant::StageSetUp, "a stage past 2 counts as set up", NEITHER),
     (Mutant::AnyK, "a unit of a k past 3 takes records", NEITHER),
+    (Mutant::RefusedSetupClears, "a refused setup clears an array", NEITHER),
+    (Mutant::OthersNotCleared, "a setup leaves the replicas past the unit's", NEITHER),
+    (Mutant::OthersChanged, "a block changes a replica past the unit's", NEITHER),
 ];
 
 /// The mutant chosen by MUTANT, if there is one.

@@ -2,16 +2,13 @@
 use Prim.Native.Nat.{ℕ, _+_, _-_, _≤_, _<_}
 use mathlib.Core.Path.{_≡_}
 use mathlib.Core.Bool.{Bool, cond, _&&_}
-use mathlib.Core.List.{List}
 use native.Mathlib.Omega.{arith}
 use lib.Dec.{ltb}
 use lib.ListN.{length, take, drop, length-take}
 use borrow.Author.Tests.{ltb-true}
 use borrow.Author.Needs.{needs}
 use Rattle.question.proofs.Tests.{case, both}
-use Rattle.transcript.specs.Journal.{Unit}
-use Rattle.transcript.specs.Blocks.{playBlock}
-use Rattle.transcript.proofs.Block.{taken-within}
+use Rattle.transcript.proofs.Block.{taken-lent}
 use Rattle.journal.proofs.player.play_all.Statement.{statement}
 use Rattle.journal.proofs.player.play_all.Tie as tie
 
@@ -25,9 +22,6 @@ abbrev μ-loop : tie.MeasureT-loop
 fewer : (ok : Bool) (taken left : ℕ) → taken ≤ left → cond (ok && ltb 0 taken) 1 0 + (left - taken) < 1 + left
 fewer ok taken left h = case (ok && ltb 0 taken) (λ e. let some = ltb-true 0 taken (both ok (ltb 0 taken) e .1) in rw e (omega arith)) (λ e. rw e (omega arith))
 
-bounded : (room : ℕ) (unit : Unit) (block : List ℕ) {taken : ℕ} → taken ≡ playBlock room unit block .taken → taken ≤ length block
-bounded room unit block e = omega (arith, e, taken-within room unit block)
-
 -- a call takes no more than is left
 within : (c : tie.After-play-block Inv-loop μ-loop) →
     let l = c .before .before .before .before .before .before .before .before .before in
@@ -37,7 +31,7 @@ within c =
     let block = l .before .before .args .block .now in
     let left = length block - l .loop .taken in
     let lent = take left (drop (l .loop .taken) block) in
-    let most : c .play-block .result .taken ≤ length lent = bounded _ _ lent (c .play-block .ensures .0 .1) in
+    let most : c .play-block .result .taken ≤ length lent = taken-lent _ _ lent (c .play-block .ensures .0 .1) in
     omega (arith, most, length-take left (drop (l .loop .taken) block))
 
 loop-holds : tie.Need-loop-holds Inv-loop μ-loop

@@ -1,18 +1,11 @@
 -- A call takes no more than it is lent.
-use Prim.Native.Nat.{ℕ, _-_, _≤_}
-use mathlib.Core.Path.{_≡_}
-use mathlib.Core.List.{List}
+use Prim.Native.Nat.{_-_}
 use native.Mathlib.Omega.{arith}
-use lib.ListN.{length, take, length-take}
-use Rattle.transcript.specs.Journal.{Unit}
-use Rattle.transcript.specs.Blocks.{playBlock}
-use Rattle.transcript.proofs.Block.{taken-within}
+use lib.ListN.{take, length-take}
+use Rattle.transcript.proofs.Block.{taken-lent}
 use borrow.Author.Needs.{needs}
 use Rattle.pieces.proofs.player.play_piece.Statement.{statement}
 use Rattle.pieces.proofs.player.play_piece.Tie as tie
-
-bounded : (room : ℕ) (unit : Unit) (size : ℕ) (left : List ℕ) {taken : ℕ} → taken ≡ playBlock room unit (take size left) .taken → taken ≤ length left
-bounded room unit size left e = omega (arith, e, taken-within room unit (take size left), length-take size left)
 
 piece-size-requires : tie.Need-piece-size-requires
 piece-size-requires c κs = search needs
@@ -55,7 +48,8 @@ returns c =
     let done = c .before .before .before .before in
     let cut = done .before .before .before .before .before .before .before .before .before in
     let s = cut .before .before .before .before in
-    bounded _ _ (cut .at-most .result - 0) (s .args .left .now) (done .play-block .ensures .0 .1)
+    let size = cut .at-most .result - 0 in
+    omega (arith, taken-lent _ _ (take size (s .args .left .now)) (done .play-block .ensures .0 .1), length-take size (s .args .left .now))
 
 pub play-piece-spec : {M : Type 1} → statement M
 play-piece-spec =
