@@ -5,7 +5,7 @@ ghost use lib.ListN.{length};
 ghost use Rattle.text.specs.Page.{page, putText};
 ghost use Rattle.transcript.specs.Blocks.{playBlock, playEnd};
 ghost use Rattle.playback.specs.Arrays.{Arrays, arrays, isSetUp, unitIn};
-ghost use Rattle.playback.specs.Calls.{Plays};
+ghost use Rattle.playback.specs.Calls.{AsPlayed};
 ghost use Rattle.export.specs.Stages.{stageOf, blankPlayer, playerOf};
 use limits::MAX_REPLICAS;
 use limits::UNIT_PLACES;
@@ -85,7 +85,7 @@ pub extern "C" fn failstop_play_block(
     text: &mut [u8],
 ) -> BlockResult
     ensures player { λ b. ⌜ b .player ≡ playerOf (stageOf (b .player)) ⌝ }
-    ensures played { λ b. ⌜ Plays (playBlock (length (now (text .entry))) (unitIn (stageOf p) (arrays (now (pending .entry)) (now (counts .entry)) (now (variables .entry)) (now (writes .entry)) (now (lasts .entry)))) (now (block .entry))) (unitIn (stageOf (b .player)) (arrays (now (pending .exit)) (now (counts .exit)) (now (variables .exit)) (now (writes .exit)) (now (lasts .exit)))) (b .taken) (page (now (text .entry)) 0) (page (now (text .exit)) (b .used)) ⌝ }
+    ensures played { λ b. ⌜ AsPlayed (playBlock (length (now (text .entry))) (unitIn (stageOf p) (arrays (now (pending .entry)) (now (counts .entry)) (now (variables .entry)) (now (writes .entry)) (now (lasts .entry)))) (now (block .entry))) (unitIn (stageOf (b .player)) (arrays (now (pending .exit)) (now (counts .exit)) (now (variables .exit)) (now (writes .exit)) (now (lasts .exit)))) (b .taken) (page (now (text .entry)) 0) (page (now (text .exit)) (b .used)) ⌝ }
     ensures kept { λ b. ⌜ (isSetUp (stageOf (b .player)) ≡ false → arrays (now (pending .exit)) (now (counts .exit)) (now (variables .exit)) (now (writes .exit)) (now (lasts .exit)) ≡ arrays (now (pending .entry)) (now (counts .entry)) (now (variables .entry)) (now (writes .entry)) (now (lasts .entry))) ⌝ }
 {
     let b = playback::play_block(

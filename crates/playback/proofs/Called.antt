@@ -9,7 +9,7 @@ use lib.ListN.{length}
 use Rattle.text.specs.Page.{page, putText}
 use Rattle.transcript.specs.Blocks.{playBlock, playEnd}
 use Rattle.playback.specs.Arrays.{Arrays, isSetUp, unitIn}
-use Rattle.playback.specs.Calls.{Plays}
+use Rattle.playback.specs.Calls.{AsPlayed}
 use Rattle.playback.specs.declared.block.Block.{Block}
 use Rattle.playback.specs.declared.stage.Stage.{Stage}
 use Rattle.playback.proofs.block.play_block.Reads as block-contract
@@ -36,7 +36,7 @@ pub record PlaysBlock (stage : Stage) (before : Arrays) (block text : List ℕ) 
 
 pub plays-mean : {stage : Stage} {before : Arrays} {block text : List ℕ} {b : Block} {after : Arrays} {text′ : List ℕ}
     → PlaysBlock stage before block text b after text′
-    → Plays (playBlock (length text) (unitIn stage before) block) (unitIn (b .stage) after) (b .taken) (page text 0) (page text′ (b .used))
+    → AsPlayed (playBlock (length text) (unitIn stage before) block) (unitIn (b .stage) after) (b .taken) (page text 0) (page text′ (b .used))
     × (isSetUp (b .stage) ≡ false → after ≡ before)
 plays-mean c = (c .learnt .0, c .learnt .1)
 

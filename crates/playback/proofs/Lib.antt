@@ -1,6 +1,5 @@
-pub mod Plays
+pub mod Record
 pub mod Arrays
-pub mod Recorded
 pub mod Loop
 pub mod New
 pub mod Cards

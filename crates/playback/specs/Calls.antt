@@ -6,9 +6,9 @@ use Rattle.transcript.specs.Journal.{Unit, Printed}
 use Rattle.transcript.specs.Blocks.{Played}
 
 -- it left this unit, and put the text behind what was used
-abbrev pub Prints : Printed → Unit → Page → Page → Type 0
-Prints p unit before after = (unit ≡ p .unit) × (after ≡ putText before (p .text))
+abbrev pub AsPrinted : Printed → Unit → Page → Page → Type 0
+AsPrinted p unit before after = (unit ≡ p .unit) × (after ≡ putText before (p .text))
 
 -- and it took so many bytes
-abbrev pub Plays : Played → Unit → ℕ → Page → Page → Type 0
-Plays p unit taken before after = (unit ≡ p .unit) × (taken ≡ p .taken) × (after ≡ putText before (p .text))
+abbrev pub AsPlayed : Played → Unit → ℕ → Page → Page → Type 0
+AsPlayed p unit taken before after = (unit ≡ p .unit) × (taken ≡ p .taken) × (after ≡ putText before (p .text))

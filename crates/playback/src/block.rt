@@ -9,7 +9,7 @@ ghost use Rattle.text.specs.Page.{page};
 ghost use Rattle.transcript.specs.Journal.{fresh, playing};
 ghost use Rattle.transcript.specs.Blocks.{linesSize, playBlock};
 ghost use Rattle.playback.specs.Arrays.{arrays, replicaAt, isSetUp, unitIn};
-ghost use Rattle.playback.specs.Calls.{Plays};
+ghost use Rattle.playback.specs.Calls.{AsPlayed};
 use crate::play::play_record;
 use crate::stage::Stage;
 use entry::SetupRead;
@@ -63,7 +63,7 @@ fn play_rest(
 ) -> Rest
     requires { ⌜ (u .k ≤ maxK) × (length (now pending) ≡ unitPlaces) × (length (now counts) ≡ unitQueues) ⌝ }
     requires { ⌜ (length (now variables) ≡ unitVariables) × (length (now writes) ≡ maxReplicas) × (length (now lasts) ≡ maxReplicas) ⌝ }
-    ensures { λ r. ⌜ Plays (playBlock (length (now (text .entry))) (playing u first (replicaAt u (arrays (now (pending .entry)) (now (counts .entry)) (now (variables .entry)) (now (writes .entry)) (now (lasts .entry))))) (now (block .entry))) (playing u (r .place) (replicaAt u (arrays (now (pending .exit)) (now (counts .exit)) (now (variables .exit)) (now (writes .exit)) (now (lasts .exit))))) (r .taken) (page (now (text .entry)) 0) (page (now (text .exit)) (r .used)) ⌝ }
+    ensures { λ r. ⌜ AsPlayed (playBlock (length (now (text .entry))) (playing u first (replicaAt u (arrays (now (pending .entry)) (now (counts .entry)) (now (variables .entry)) (now (writes .entry)) (now (lasts .entry))))) (now (block .entry))) (playing u (r .place) (replicaAt u (arrays (now (pending .exit)) (now (counts .exit)) (now (variables .exit)) (now (writes .exit)) (now (lasts .exit))))) (r .taken) (page (now (text .entry)) 0) (page (now (text .exit)) (r .used)) ⌝ }
 {
     let mut place = first;
     let mut taken: usize = 0;
@@ -98,7 +98,7 @@ fn play_first(
     lasts: &mut [u64; MAX_REPLICAS],
     text: &mut [u8],
 ) -> Block
-    ensures played { λ b. ⌜ Plays (playBlock (length (now (text .entry))) fresh (now (block .entry))) (unitIn (b .stage) (arrays (now (pending .exit)) (now (counts .exit)) (now (variables .exit)) (now (writes .exit)) (now (lasts .exit)))) (b .taken) (page (now (text .entry)) 0) (page (now (text .exit)) (b .used)) ⌝ }
+    ensures played { λ b. ⌜ AsPlayed (playBlock (length (now (text .entry))) fresh (now (block .entry))) (unitIn (b .stage) (arrays (now (pending .exit)) (now (counts .exit)) (now (variables .exit)) (now (writes .exit)) (now (lasts .exit)))) (b .taken) (page (now (text .entry)) 0) (page (now (text .exit)) (b .used)) ⌝ }
     ensures kept { λ b. ⌜ (isSetUp (b .stage) ≡ false → arrays (now (pending .exit)) (now (counts .exit)) (now (variables .exit)) (now (writes .exit)) (now (lasts .exit)) ≡ arrays (now (pending .entry)) (now (counts .entry)) (now (variables .entry)) (now (writes .entry)) (now (lasts .entry))) ⌝ }
 {
     if !goes_on(block.len(), text.len(), 1) {
@@ -154,7 +154,7 @@ pub fn play_block(
     lasts: &mut [u64; MAX_REPLICAS],
     text: &mut [u8],
 ) -> Block
-    ensures played { λ b. ⌜ Plays (playBlock (length (now (text .entry))) (unitIn stage (arrays (now (pending .entry)) (now (counts .entry)) (now (variables .entry)) (now (writes .entry)) (now (lasts .entry)))) (now (block .entry))) (unitIn (b .stage) (arrays (now (pending .exit)) (now (counts .exit)) (now (variables .exit)) (now (writes .exit)) (now (lasts .exit)))) (b .taken) (page (now (text .entry)) 0) (page (now (text .exit)) (b .used)) ⌝ }
+    ensures played { λ b. ⌜ AsPlayed (playBlock (length (now (text .entry))) (unitIn stage (arrays (now (pending .entry)) (now (counts .entry)) (now (variables .entry)) (now (writes .entry)) (now (lasts .entry)))) (now (block .entry))) (unitIn (b .stage) (arrays (now (pending .exit)) (now (counts .exit)) (now (variables .exit)) (now (writes .exit)) (now (lasts .exit)))) (b .taken) (page (now (text .entry)) 0) (page (now (text .exit)) (b .used)) ⌝ }
     ensures kept { λ b. ⌜ (isSetUp (b .stage) ≡ false → arrays (now (pending .exit)) (now (counts .exit)) (now (variables .exit)) (now (writes .exit)) (now (lasts .exit)) ≡ arrays (now (pending .entry)) (now (counts .entry)) (now (variables .entry)) (now (writes .entry)) (now (lasts .entry))) ⌝ }
 {
     match stage {

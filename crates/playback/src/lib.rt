@@ -1,10 +1,10 @@
 // The playing of a journal in blocks: what its records (crates/entry) do to the replicas of a unit, and
-// the lines that are printed. The program that reads and writes is crates/journal.
+// the lines (crates/lines) that are printed. What a whole journal prints, and what a call does, stands in
+// crates/transcript; the program that reads and writes is crates/journal.
 //
-// Read on in this order: `stage` (how far it has come), `lines` (what is printed), `unit` (the replicas,
-// lent side by side), `play` (one record), `block` (a block of them), `end`, `left` (the bytes between two
-// blocks). specs/Journal.antt says what a whole journal prints, specs/Blocks.antt what a call does, and
-// proofs/Cuts.antt that the calls print the whole journal, however its input is cut.
+// Read on in this order: `stage` (how far it has come), `unit` (the replicas, lent side by side), `play`
+// (one record), `block` (a block of them), `end`, `left` (the bytes between two blocks). specs/Arrays.antt
+// has the unit that the arrays stand for, specs/Calls.antt what a call promises.
 mod block;
 mod end;
 mod left;

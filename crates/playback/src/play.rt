@@ -11,7 +11,7 @@ ghost use Rattle.entry.specs.Entry.{delivery, turn};
 ghost use Rattle.lines.specs.Lines.{answerLines};
 ghost use Rattle.transcript.specs.Journal.{playing, playRead, playRecord};
 ghost use Rattle.playback.specs.Arrays.{arrays, replicaAt};
-ghost use Rattle.playback.specs.Calls.{Prints};
+ghost use Rattle.playback.specs.Calls.{AsPrinted};
 use crate::unit::deliver_to;
 use crate::unit::step_of;
 use entry::EntryRead;
@@ -41,7 +41,7 @@ fn play_delivery(
 ) -> usize
     requires { ⌜ (1 ≤ number) × (number ≤ maxReplicas) ⌝ }
     requires { ⌜ (length (now pending) ≡ unitPlaces) × (length (now counts) ≡ unitQueues) × (length (now lasts) ≡ maxReplicas) ⌝ }
-    ensures { λ n. ⌜ ((variables writes : List ℕ) → Prints (playRead u place (replicaAt u (arrays (now (pending .entry)) (now (counts .entry)) variables writes (now (lasts .entry)))) (given (delivery number at (take recordSize (drop 16 (now (bytes .entry))))))) (playing u (place + 1) (replicaAt u (arrays (now (pending .exit)) (now (counts .exit)) variables writes (now (lasts .exit))))) (page (now (text .entry)) used) (page (now (text .exit)) n)) ⌝ }
+    ensures { λ n. ⌜ ((variables writes : List ℕ) → AsPrinted (playRead u place (replicaAt u (arrays (now (pending .entry)) (now (counts .entry)) variables writes (now (lasts .entry)))) (given (delivery number at (take recordSize (drop 16 (now (bytes .entry))))))) (playing u (place + 1) (replicaAt u (arrays (now (pending .exit)) (now (counts .exit)) variables writes (now (lasts .exit))))) (page (now (text .entry)) used) (page (now (text .exit)) n)) ⌝ }
 {
     let i = number as usize - 1;
     let start = at_most(16, bytes.len());
@@ -85,7 +85,7 @@ fn play_turn(
 ) -> usize
     requires { ⌜ (1 ≤ number) × (number ≤ maxReplicas) × (length (now pending) ≡ unitPlaces) × (length (now counts) ≡ unitQueues) ⌝ }
     requires { ⌜ (length (now variables) ≡ unitVariables) × (length (now writes) ≡ maxReplicas) × (length (now lasts) ≡ maxReplicas) ⌝ }
-    ensures { λ n. ⌜ Prints (playRead u place (replicaAt u (arrays (now (pending .entry)) (now (counts .entry)) (now (variables .entry)) (now (writes .entry)) (now (lasts .entry)))) (given (turn number at))) (playing u (place + 1) (replicaAt u (arrays (now (pending .exit)) (now (counts .exit)) (now (variables .exit)) (now (writes .exit)) (now (lasts .exit))))) (page (now (text .entry)) used) (page (now (text .exit)) n) ⌝ }
+    ensures { λ n. ⌜ AsPrinted (playRead u place (replicaAt u (arrays (now (pending .entry)) (now (counts .entry)) (now (variables .entry)) (now (writes .entry)) (now (lasts .entry)))) (given (turn number at))) (playing u (place + 1) (replicaAt u (arrays (now (pending .exit)) (now (counts .exit)) (now (variables .exit)) (now (writes .exit)) (now (lasts .exit))))) (page (now (text .entry)) used) (page (now (text .exit)) n) ⌝ }
 {
     let i = number as usize - 1;
     let mut output = [0u8; OUTPUT];
@@ -118,7 +118,7 @@ pub(crate) fn play_record(
 ) -> usize
     requires { ⌜ (u .k ≤ maxK) × (length (now pending) ≡ unitPlaces) × (length (now counts) ≡ unitQueues) ⌝ }
     requires { ⌜ (length (now variables) ≡ unitVariables) × (length (now writes) ≡ maxReplicas) × (length (now lasts) ≡ maxReplicas) ⌝ }
-    ensures { λ n. ⌜ Prints (playRecord (playing u place (replicaAt u (arrays (now (pending .entry)) (now (counts .entry)) (now (variables .entry)) (now (writes .entry)) (now (lasts .entry))))) (now (bytes .entry))) (playing u (place + 1) (replicaAt u (arrays (now (pending .exit)) (now (counts .exit)) (now (variables .exit)) (now (writes .exit)) (now (lasts .exit))))) (page (now (text .entry)) used) (page (now (text .exit)) n) ⌝ }
+    ensures { λ n. ⌜ AsPrinted (playRecord (playing u place (replicaAt u (arrays (now (pending .entry)) (now (counts .entry)) (now (variables .entry)) (now (writes .entry)) (now (lasts .entry))))) (now (bytes .entry))) (playing u (place + 1) (replicaAt u (arrays (now (pending .exit)) (now (counts .exit)) (now (variables .exit)) (now (writes .exit)) (now (lasts .exit))))) (page (now (text .entry)) used) (page (now (text .exit)) n) ⌝ }
 {
     match entry::read_entry(u.k, bytes) {
         EntryRead::Delivery(number, at) => play_delivery(

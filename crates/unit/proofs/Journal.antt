@@ -39,12 +39,13 @@ small Stopped a = omega arith
 
 -- from any stage on
 plays : {stage : Stage} {a : Arrays} {left printed : List ℕ} → Prints stage a left printed → printed ≡ playAll (unitIn stage a) (recordsOf left)
-plays (block {stage = stage} {before = before} {left = left} {text = text} size call more) =
+plays (block {stage = stage} {before = before} {left = left} {text = text} {b = b} {after = after} {printed = printed} size call more) =
     let unit = unitIn stage before in
     let done = playBlock (length text) unit (take size left) in
     let said = plays-mean call .0 in
-    let text-is = written text (done .text) (block-fits (length text) unit (take size left)) (said .2) in
-    rw (text-is, plays more, said .0, said .1) (call-plays size (length text) unit left)
+    let first = written text (done .text) (block-fits (length text) unit (take size left)) (said .2) in
+    let others : printed ≡ playAll (unitIn (b .stage) after) (recordsOf (drop (b .taken) left)) = plays more in
+    rw (first, others, said .0, said .1) (call-plays size (length text) unit left)
 plays (end {stage = stage} {a = a} {left = left} {text = text} over room call) =
     let unit = unitIn stage a in
     written text (playEnd unit left) (omega (arith, end-fits unit left (small stage a))) (end-means call) ∙ sym (end-plays unit left over)

@@ -21,7 +21,7 @@ use Rattle.transcript.specs.Blocks.{linesSize, playBlock, endSize, playEnd}
 use Rattle.transcript.proofs.Whole.{setup}
 use Rattle.transcript.proofs.Block.{block-short, first-accepted}
 use Rattle.playback.specs.Arrays.{Arrays, isSetUp, replicaAt, unitIn}
-use Rattle.playback.specs.Calls.{Plays}
+use Rattle.playback.specs.Calls.{AsPlayed}
 use Rattle.playback.specs.declared.block.Block.{Block}
 use Rattle.playback.specs.declared.stage.Stage.{Stage}
 use Rattle.playback.specs.declared.stage.Stage.the-variants.{First, Playing}
@@ -36,7 +36,7 @@ abbrev somewhere : {A : Type 0} → A → RefT A
 somewhere x = record { ptr = (0, 0); name = 0; now = x }
 
 made : {stage : Stage} {before : Arrays} {bytes text : List ℕ} {b : Block} {after : Arrays} {text′ : List ℕ}
-    → Plays (playBlock (length text) (unitIn stage before) bytes) (unitIn (b .stage) after) (b .taken) (page text 0) (page text′ (b .used))
+    → AsPlayed (playBlock (length text) (unitIn stage before) bytes) (unitIn (b .stage) after) (b .taken) (page text 0) (page text′ (b .used))
     → (isSetUp (b .stage) ≡ false → after ≡ before) → PlaysBlock stage before bytes text b after text′
 made {before = before} {bytes = bytes} {text = text} plays kept =
     record {

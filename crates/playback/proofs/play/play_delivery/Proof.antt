@@ -13,7 +13,7 @@ use Rattle.rules.specs.Replica.{State, deliver}
 use Rattle.entry.specs.Entry.{delivery}
 use Rattle.transcript.specs.Journal.{playing, replaced, playEntry}
 use Rattle.playback.specs.Arrays.{arrays, replicaAt}
-use Rattle.playback.proofs.Plays.{request-part, state-delivered, done-text, refused-text}
+use Rattle.playback.proofs.Record.{request-part, state-delivered, done-text, refused-text}
 use Rattle.playback.proofs.play.play_delivery.Statement.{statement}
 use Rattle.playback.proofs.play.play_delivery.Tie as tie
 

@@ -7,7 +7,7 @@ use borrow.Author.Needs.{needs}
 use Rattle.question.specs.Question.{given, refused}
 use Rattle.entry.specs.Entry.{Entry, delivery, turn, readEntry, entryAnswer}
 use Rattle.transcript.specs.Journal.{replicaFor, playRecord}
-use Rattle.playback.proofs.Recorded.{entry-there}
+use Rattle.playback.proofs.Record.{entry-there}
 use Rattle.playback.proofs.play.play_record.Statement.{statement}
 use Rattle.playback.proofs.play.play_record.Tie as tie
 

@@ -7,7 +7,7 @@ use Rattle.limits.specs.Limits.{outputSize}
 use Rattle.rules.specs.Replica.{step}
 use Rattle.transcript.specs.Journal.{playing, playEntry}
 use Rattle.playback.specs.Arrays.{arrays, replicaAt}
-use Rattle.playback.proofs.Plays.{stepped-text}
+use Rattle.playback.proofs.Record.{stepped-text}
 use Rattle.playback.proofs.play.play_turn.Statement.{statement}
 use Rattle.playback.proofs.play.play_turn.Tie as tie
 

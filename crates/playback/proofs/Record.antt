@@ -1,19 +1,33 @@
--- The bytes of a delivery's request, and what a delivery and a step print. Assumes nothing.
-use Prim.Native.Nat.{ℕ, _-_, min}
+-- One record after the setup: its replica is the unit's, the bytes of its request, and what it prints. Assumes nothing.
+use Prim.Native.Nat.{ℕ, _+_, _*_, _-_, _≤_, min}
 use mathlib.Core.Path.{_≡_, refl, sym, _∙_}
 use mathlib.Core.Bool.{Bool, true, false}
 use mathlib.Core.List.{List, []}
-use lib.Dec.{leb}
+use lib.Dec.{eqb, leb}
 use lib.ListN.{length, take, drop, length-drop, drop-of-length-le}
 use lib.Seq.{take-all, take-nil}
 use native.Mathlib.Omega.{arith}
 use borrow.Author.Tests.{leb-true, leb-false}
 use Rattle.question.specs.Question.{Answer, given, refused, worked, after, verdict, mapAnswer}
+use Rattle.question.proofs.Questions.{ask-all-yes, ask-through, same-given}
+use Rattle.question.proofs.Tests.{case, within-true}
 use Rattle.rules.specs.declared.Settings.{Settings}
 use Rattle.rules.specs.Replica.{State, Stepped}
 use Rattle.rules.specs.Run.{messagesIn}
+use Rattle.entry.specs.Entry.{Entry, kindOf, replicaOf, entryIn, entryQuestions, readEntry}
 use Rattle.lines.specs.Lines.{refusalLine, answerLines}
-use Rattle.transcript.specs.Journal.{linesOf}
+use Rattle.transcript.specs.Journal.{replicaFor, linesOf}
+
+-- ── the replica ──
+
+pub entry-there : (k : ℕ) (bytes : List ℕ) {e : Entry} → readEntry k bytes ≡ given e → (1 ≤ replicaFor e) × (replicaFor e ≤ 2 * k + 1)
+unfolding readEntry
+entry-there k bytes {e} read =
+    let asked = ask-all-yes (entryQuestions k bytes) (given (entryIn bytes)) read in
+    let there = within-true 1 (2 * k + 1) (replicaOf bytes) (asked .1 .1 .0) in
+    let same : entryIn bytes ≡ e = same-given (ask-through (entryQuestions k bytes) (given (entryIn bytes)) read) in
+    let named : replicaFor (entryIn bytes) ≡ replicaOf bytes = case (eqb (kindOf bytes) 2) (λ d. rw d) (λ d. rw d) in
+    rw (← same, named) there
 
 -- ── the request ──
 
