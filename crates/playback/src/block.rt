@@ -18,6 +18,7 @@ use limits::MAX_K;
 use limits::MAX_PLACE;
 use limits::MAX_REPLICAS;
 use limits::MAX_SENT;
+use limits::OUTPUT;
 use limits::UNIT_PLACES;
 use limits::UNIT_QUEUES;
 use limits::UNIT_VARIABLES;
@@ -65,6 +66,7 @@ fn play_rest(
     requires { ⌜ (length (now variables) ≡ unitVariables) × (length (now writes) ≡ maxReplicas) × (length (now lasts) ≡ maxReplicas) ⌝ }
     ensures { λ r. ⌜ AsPlayed (playBlock (length (now (text .entry))) (playing u first (replicaAt u (arrays (now (pending .entry)) (now (counts .entry)) (now (variables .entry)) (now (writes .entry)) (now (lasts .entry))))) (now (block .entry))) (playing u (r .place) (replicaAt u (arrays (now (pending .exit)) (now (counts .exit)) (now (variables .exit)) (now (writes .exit)) (now (lasts .exit))))) (r .taken) (page (now (text .entry)) 0) (page (now (text .exit)) (r .used)) ⌝ }
 {
+    let mut output = [0u8; OUTPUT];
     let mut place = first;
     let mut taken: usize = 0;
     let mut used: usize = 0;
@@ -79,6 +81,7 @@ fn play_rest(
             variables,
             writes,
             lasts,
+            &mut output,
             text,
             used,
         );

@@ -70,6 +70,7 @@ fn put_answer(
     }
 }
 
+// The output is lent, so that it is not cleared for each turn; what stands in it is of no account.
 fn play_turn(
     u: Settings,
     place: u64,
@@ -80,6 +81,7 @@ fn play_turn(
     variables: &mut [u32],
     writes: &mut [u64],
     lasts: &mut [u64],
+    output: &mut [u8; OUTPUT],
     text: &mut [u8],
     used: usize,
 ) -> usize
@@ -88,22 +90,11 @@ fn play_turn(
     ensures { λ n. ⌜ AsPrinted (playRead u place (replicaAt u (arrays (now (pending .entry)) (now (counts .entry)) (now (variables .entry)) (now (writes .entry)) (now (lasts .entry)))) (given (turn number at))) (playing u (place + 1) (replicaAt u (arrays (now (pending .exit)) (now (counts .exit)) (now (variables .exit)) (now (writes .exit)) (now (lasts .exit))))) (page (now (text .entry)) used) (page (now (text .exit)) n) ⌝ }
 {
     let i = number as usize - 1;
-    let mut output = [0u8; OUTPUT];
-    let answer = step_of(
-        u,
-        i,
-        at,
-        pending,
-        counts,
-        variables,
-        writes,
-        lasts,
-        &mut output,
-    );
-    put_answer(u.k, u.groups, place, answer, &output, text, used)
+    let answer = step_of(u, i, at, pending, counts, variables, writes, lasts, output);
+    put_answer(u.k, u.groups, place, answer, output, text, used)
 }
 
-// A record after the setup.
+// A record after the setup; a turn writes its messages to the output.
 pub(crate) fn play_record(
     u: Settings,
     place: u64,
@@ -113,6 +104,7 @@ pub(crate) fn play_record(
     variables: &mut [u32],
     writes: &mut [u64],
     lasts: &mut [u64],
+    output: &mut [u8; OUTPUT],
     text: &mut [u8],
     used: usize,
 ) -> usize
@@ -143,6 +135,7 @@ pub(crate) fn play_record(
             variables,
             writes,
             lasts,
+            output,
             text,
             used,
         ),

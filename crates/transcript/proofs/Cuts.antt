@@ -9,7 +9,7 @@ use lib.Dec.{ltb}
 use lib.ListN.{length, take, drop, replicate, length-append, length-take, length-drop, take-append-drop, drop-of-length-le}
 use lib.Seq.{take-all, take-append-le, drop-append-le, drop-drop}
 use native.Mathlib.Omega.{arith}
-use borrow.Author.Tests.{ltb-true, ltb-false, lt-ltb, le-ltb, le-leb, ne-eqb}
+use borrow.Author.Tests.{ltb-true, ltb-false, lt-ltb, le-leb, ne-eqb}
 use Rattle.limits.specs.Limits.{entrySize, maxPlace}
 use Rattle.question.specs.Question.{Answer, given, refused, ask}
 use Rattle.question.proofs.Tests.{case, true-not-false}

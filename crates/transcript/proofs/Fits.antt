@@ -25,7 +25,6 @@ use Rattle.rules.specs.Replica.{State, Stepped, Written, written, behind, put, 
 use Rattle.laws.proofs.Lists.{length-upTo}
 use Rattle.laws.proofs.Step.{step-accepted}
 use Rattle.entry.specs.Entry.{Entry, delivery, turn, settingsIn, setupQuestions, readSetup, readEntry}
-use Rattle.lines.specs.Lines.{refusalLine}
 use Rattle.transcript.specs.Journal.{Unit, fresh, playing, stopped, playSetup, replicaFor, playEntry, linesOf, playRead, playRecord, cardLines}
 use Rattle.transcript.specs.Blocks.{linesSize, wholeEntries, goesOn, playRecords, playBlock, playPart, endSize, playEnd}
 use Rattle.lines.proofs.Room.{messages-short, refusal-short, cards-short}

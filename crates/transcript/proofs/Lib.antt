@@ -1,5 +1,6 @@
 pub mod Whole
 pub mod Numbers
+pub mod Output
 pub mod Block
 pub mod Fits
 pub mod Cuts

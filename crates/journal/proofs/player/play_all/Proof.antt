@@ -1,6 +1,5 @@
 -- A call takes no more than it is lent, and one that takes nothing is the last.
 use Prim.Native.Nat.{ℕ, _+_, _-_, _≤_, _<_}
-use mathlib.Core.Path.{_≡_}
 use mathlib.Core.Bool.{Bool, cond, _&&_}
 use native.Mathlib.Omega.{arith}
 use lib.Dec.{ltb}

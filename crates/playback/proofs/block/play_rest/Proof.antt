@@ -18,7 +18,7 @@ use Rattle.playback.proofs.block.play_rest.Statement.{statement}
 use Rattle.playback.proofs.block.play_rest.Tie as tie
 
 abbrev Inv-loop : tie.InvT-loop
-Inv-loop u first block pending₀ counts₀ variables₀ writes₀ lasts₀ text₀ place₀ taken₀ used₀ pending counts variables writes lasts text place taken used =
+Inv-loop u first block pending₀ counts₀ variables₀ writes₀ lasts₀ text₀ output₀ place₀ taken₀ used₀ pending counts variables writes lasts text output place taken used =
     (taken ≤ length block)
     × (used ≤ length text)
     × (length pending ≡ length pending₀)
@@ -31,7 +31,7 @@ Inv-loop u first block pending₀ counts₀ variables₀ writes₀ lasts₀ text
     (playing u place (replicaAt u (arrays pending counts variables writes lasts))) block text used taken (page text₀ 0)
 
 abbrev μ-loop : tie.MeasureT-loop
-μ-loop u first block pending₀ counts₀ variables₀ writes₀ lasts₀ text₀ place₀ taken₀ used₀ pending counts variables writes lasts text place taken used = length block - taken
+μ-loop u first block pending₀ counts₀ variables₀ writes₀ lasts₀ text₀ output₀ place₀ taken₀ used₀ pending counts variables writes lasts text output place taken used = length block - taken
 
 -- what the test says
 going : (c : tie.Then1 Inv-loop μ-loop) →
@@ -77,22 +77,22 @@ part-play-record-end c = search (needs, going c)
 
 play-record-requires : tie.Need-play-record-requires Inv-loop μ-loop
 play-record-requires c κs =
-    let l = c .before .before .before .before .before .before .before .before .before in
+    let l = c .before .before .before .before .before .before .before .before .before .before in
     let s = l .before .before .before .before .before .before .before in
     let inv = l .loop .inv in
     ((s .pre .0 .0, inv .2 ∙ s .pre .0 .1, inv .3 ∙ s .pre .0 .2), (inv .4 ∙ s .pre .1 .0, inv .5 ∙ s .pre .1 .1, inv .6 ∙ s .pre .1 .2))
 
 add-place : tie.Need-add-place Inv-loop μ-loop
-add-place c = search (needs, going (c .before .before .before .before .before .before .before .before .before .before .before .before .before .before .before .before .before .before .before))
+add-place c = search (needs, going (c .before .before .before .before .before .before .before .before .before .before .before .before .before .before .before .before .before .before .before .before))
 
 loop-less : tie.Need-loop-less Inv-loop μ-loop
-loop-less c = omega (arith, going (c .before .before .before .before .before .before .before .before .before .before .before .before .before .before .before .before .before .before .before))
+loop-less c = omega (arith, going (c .before .before .before .before .before .before .before .before .before .before .before .before .before .before .before .before .before .before .before .before))
 
 loop-again : tie.Need-loop-again Inv-loop μ-loop
 unfolding playRecord
 loop-again c =
     let done = c .before .before .before .before .before .before .before .before .before .before .before in
-    let then = done .before .before .before .before .before .before .before .before in
+    let then = done .before .before .before .before .before .before .before .before .before in
     let l = then .before .before in
     let a = l .before .before .before .before .before .before .before .args in
     let inv = l .loop .inv in
@@ -104,15 +104,15 @@ loop-again c =
     let one : l .loop .taken + entrySize - l .loop .taken ≡ entrySize = omega arith in
     let said = rw one at (done .play-record .ensures) in
     let next = left-next all old (a .block .now) (l .loop .text) (l .loop .used) (l .loop .taken) (page (a .text .now) 0) (inv .8)
-    (done .play-record .result) (done .play-record .last .1 .1 .1 .1 .1 .1 .1 .1 .0) (kept .1 .1 .1 .1 .1 .0) (inv .1) (go .0) (rw (le-leb linesSize (length (l .loop .text) - l .loop .used) (go .1), lt-ltb (l .loop .place) maxPlace (go .2))) (said .1) in (
+    (done .play-record .result) (done .play-record .last .1 .1 .1 .1 .1 .1 .1 .1 .1 .0) (kept .1 .1 .1 .1 .1 .1 .0) (inv .1) (go .0) (rw (le-leb linesSize (length (l .loop .text) - l .loop .used) (go .1), lt-ltb (l .loop .place) maxPlace (go .2))) (said .1) in (
       omega (arith, go .0),
-      omega (arith, put-within (l .loop .text) (l .loop .used) _ (said .1) (inv .1), kept .1 .1 .1 .1 .1 .0),
+      omega (arith, put-within (l .loop .text) (l .loop .used) _ (said .1) (inv .1), kept .1 .1 .1 .1 .1 .1 .0),
       kept .0 ∙ inv .2,
       kept .1 .0 ∙ inv .3,
       kept .1 .1 .0 ∙ inv .4,
       kept .1 .1 .1 .0 ∙ inv .5,
       kept .1 .1 .1 .1 .0 ∙ inv .6,
-      kept .1 .1 .1 .1 .1 .0 ∙ inv .7,
+      kept .1 .1 .1 .1 .1 .1 .0 ∙ inv .7,
       rw (← said .0) at next,
     )
 

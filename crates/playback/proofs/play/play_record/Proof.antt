@@ -47,7 +47,7 @@ enum-known-number-2 c = search needs
 
 play-turn-requires : tie.Need-play-turn-requires
 play-turn-requires c κs =
-    let read = c .before .before .before .before .before .before .before in
+    let read = c .before .before .before .before .before .before .before .before in
     let s = read .before .before .before .before .before .before .before .before .before in
     let there = few s (turned read) in
     ((there .0, there .1, s .pre .0 .1, s .pre .0 .2), (s .pre .1 .0, s .pre .1 .1, s .pre .1 .2))
@@ -101,7 +101,7 @@ returns-2 : tie.Need-returns-2
 unfolding playRecord
 returns-2 c =
     let done = c .before .before .before .before .before .before .before .before .before .before .before in
-    let read = done .before .before .before .before .before .before .before .before in
+    let read = done .before .before .before .before .before .before .before .before .before in
     rw (turned read) (done .play-turn .ensures)
 
 same-length-11 : tie.Need-same-length-11
