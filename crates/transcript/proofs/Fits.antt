@@ -1,77 +1,26 @@
 -- Nothing is cut off: what a record prints takes at most 8,844 bytes, what a call prints fits the text that it was lent, and the end of
 -- a journal at most 521. Assumes nothing.
 use Prim.Native.Nat.{ℕ, _+_, _*_, _-_, _≤_}
-use mathlib.Core.Path.{_≡_, refl, sym, ap, _∙_}
+use mathlib.Core.Path.{_≡_, refl, ap}
 use mathlib.Core.Bool.{true, false}
-use mathlib.Core.List.{List, [], _∷_, _++_, map}
+use mathlib.Core.List.{List, [], _∷_, map}
 use lib.Dec.{leb, ltb}
-use lib.ListN.{length, take, drop, replicate, length-append, length-take, length-drop, length-map, length-replicate}
+use lib.ListN.{length, replicate, length-append, length-map, length-replicate}
 use native.Mathlib.Omega.{arith}
 use borrow.Author.Tests.{leb-true}
-use Rattle.limits.specs.Limits.{maxK, recordSize, outputSize, maxSent, maxPlace}
+use Rattle.limits.specs.Limits.{maxK, outputSize, maxSent, maxPlace}
 use Rattle.question.specs.Question.{Answer, given, refused, unitQuestions}
 use Rattle.question.proofs.Questions.{ask-through, ask-all-yes, all-yes-parts, bind-given, same-given}
 use Rattle.question.proofs.Tests.{case, both, true-not-false, unit-facts}
-use Rattle.layout.specs.Layout.{bytesOf}
-use Rattle.layout.proofs.Layouts.{length-bytes-of}
-use Rattle.layout.specs.declared.clock.LocalTime.{LocalTime}
-use Rattle.record.specs.Record.{messageFields, writeMessage}
-use Rattle.record.specs.declared.kind.Family.the-variants.{Messages}
-use Rattle.record.specs.declared.message.Message.{Message}
-use Rattle.record.proofs.Reading.{write-given, write-writable}
 use Rattle.rules.specs.Lists.{upTo}
 use Rattle.rules.specs.declared.Settings.{Settings}
-use Rattle.rules.specs.Replica.{State, Stepped, Written, written, behind, put, putAll, stepped, step, visits, atTime, deliver}
+use Rattle.rules.specs.Replica.{State, Stepped, deliver}
 use Rattle.laws.proofs.Lists.{length-upTo}
-use Rattle.laws.proofs.Step.{step-accepted}
 use Rattle.entry.specs.Entry.{Entry, delivery, turn, settingsIn, setupQuestions, readSetup, readEntry}
 use Rattle.transcript.specs.Journal.{Unit, fresh, playing, stopped, playSetup, replicaFor, playEntry, linesOf, playRead, playRecord, cardLines}
 use Rattle.transcript.specs.Blocks.{linesSize, wholeEntries, goesOn, playRecords, playBlock, playPart, endSize, playEnd}
 use Rattle.lines.proofs.Room.{messages-short, refusal-short, cards-short}
-
--- ── what a step counts ──
-
--- records that stand within an output of so many bytes
-abbrev Within : ℕ → Written → Type 0
-Within size w = (recordSize * w .count ≤ size) × (length (w .output) ≡ size)
-
-module _ (k n size : ℕ) where
-  put-within : (w : Written) (m : Message) → Within size w → Within size (put k n w m)
-  unfolding put
-  put-within w m h = go (writeMessage k n m rest) refl
-    where
-      rest : List ℕ
-      rest = drop (recordSize * w .count) (w .output)
-
-      go : (a : Answer (List ℕ)) → writeMessage k n m rest ≡ a → Within size (behind w a)
-      go (given bytes) e =
-          let fits = write-writable Messages k n (messageFields m) rest e in
-          let new = bytesOf (messageFields m) ++ drop recordSize rest in
-          let is : bytes ≡ new = same-given (sym e ∙ write-given Messages k n fits) in
-          let room = fits .room in
-          let long = length-drop (recordSize * w .count) (w .output) in
-          let same : length (take (recordSize * w .count) (w .output) ++ new) ≡ size = omega (
-            arith,
-            length-append (take (recordSize * w .count) (w .output)) new,
-            length-append (bytesOf (messageFields m)) (drop recordSize rest),
-            length-bytes-of (messageFields m),
-            length-take (recordSize * w .count) (w .output),
-            length-drop recordSize rest,
-          ) in
-          (omega arith, rw is same)
-      go (refused number) e = h
-
-  all-within : (messages : List Message) (w : Written) → Within size w → Within size (putAll k n w messages)
-  unfolding putAll
-  all-within [] w h = h
-  all-within (m ∷ messages) w h = all-within messages (put k n w m) (put-within w m h)
-
--- whatever the replica, the records that an accepted step counts stand in the output
-step-within : (s : State) (at : LocalTime) (output : List ℕ) {d : Stepped} → step s at output ≡ given d → recordSize * d .count ≤ length output
-unfolding stepped
-step-within s at output e =
-    rw (step-accepted s at output e)
-    (all-within (s .settings .k) (s .settings .groups) (length output) (visits (s .settings .groups) at (atTime at s) .sent) (written 0 output) (omega arith, refl) .0)
+use Rattle.transcript.proofs.Output.{step-within}
 
 -- ── what a record prints ──
 

@@ -1,5 +1,5 @@
--- What a step writes, and what is printed of it, does not depend on what stood in the output before. Assumes nothing.
-use Prim.Native.Nat.{ℕ, zero, suc, _+_, _*_}
+-- What a step writes stands within the output; and it, and what is printed of it, does not depend on what stood there before. Assumes nothing.
+use Prim.Native.Nat.{ℕ, zero, suc, _+_, _*_, _≤_}
 use mathlib.Core.Path.{_≡_, refl, sym, ap, _∙_}
 use mathlib.Core.List.{List, [], _∷_, _++_, map}
 use native.Mathlib.Nat.{zero-add}
@@ -20,19 +20,11 @@ use Rattle.record.proofs.Reading.{Writable, write-given, write-writable}
 use Rattle.rules.specs.declared.Settings.{Settings}
 use Rattle.rules.specs.Replica.{State, Stepped, Written, written, behind, put, putAll, visits, atTime, stepped, stepQuestions, step}
 use Rattle.rules.specs.Run.{accepted, messagesIn}
+use Rattle.laws.proofs.Step.{step-accepted}
 use Rattle.lines.specs.Lines.{messageLine}
 use Rattle.transcript.specs.Journal.{linesOf}
 
--- ── the records ──
-
--- as many records, the same ones, in outputs of one length
-record Alike (v w : Written) : Type 0 where
-  count : v .count ≡ w .count
-  long : length (v .output) ≡ length (w .output)
-  front : take (recordSize * v .count) (v .output) ≡ take (recordSize * v .count) (w .output)
-
-turned : (v w : Written) → Alike v w → Alike w v
-turned v w h = record { count = sym (h .count); long = sym (h .long); front = sym (rw (h .count) at (h .front)) }
+-- ── one record ──
 
 module _ (k n : ℕ) (m : Message) where
   abbrev rest : Written → List ℕ
@@ -41,25 +33,7 @@ module _ (k n : ℕ) (m : Message) where
   abbrev after : Written → List ℕ
   after w = bytesOf (messageFields m) ++ drop recordSize (rest w)
 
-  -- where one can be written, so can the other
-  fits : (v w : Written) → Alike v w → Writable Messages k n (messageFields m) (rest v) → Writable Messages k n (messageFields m) (rest w)
-  fits v w h f =
-      record {
-        unit = f .unit;
-        fields = f .fields;
-        room = omega (arith, f .room, h .long, h .count, length-drop (recordSize * v .count) (v .output), length-drop (recordSize * w .count) (w .output));
-      }
-
-  -- what stands in front then
-  front-is : (w : Written) → Writable Messages k n (messageFields m) (rest w)
-      → take (recordSize * (w .count + 1)) (take (recordSize * w .count) (w .output) ++ after w) ≡ take (recordSize * w .count) (w .output) ++ bytesOf (messageFields m)
-  front-is w f =
-      let start = take (recordSize * w .count) (w .output) in
-      let bytes = bytesOf (messageFields m) in
-      let long : length start ≡ recordSize * w .count = length-take-le (recordSize * w .count) (w .output) (omega (arith, f .room, length-drop (recordSize * w .count) (w .output))) in
-      let end : recordSize * (w .count + 1) ≡ length start + length bytes = omega (arith, long, length-bytes-of (messageFields m)) in
-      rw end (take-append-add start (after w) (length bytes) ∙ ap (λ l. start ++ l) (take-append-seam bytes (drop recordSize (rest w))))
-
+  -- the length stays
   written-length : (w : Written) → Writable Messages k n (messageFields m) (rest w)
       → length (take (recordSize * w .count) (w .output) ++ after w) ≡ length (w .output)
   written-length w f =
@@ -75,28 +49,91 @@ module _ (k n : ℕ) (m : Message) where
         length-drop (recordSize * w .count) (w .output),
       )
 
+-- ── how many there are ──
+
+-- records that stand within an output of so many bytes
+abbrev Within : ℕ → Written → Type 0
+Within size w = (recordSize * w .count ≤ size) × (length (w .output) ≡ size)
+
+module _ (k n size : ℕ) where
+  put-within : (w : Written) (m : Message) → Within size w → Within size (put k n w m)
+  unfolding put
+  put-within w m h = go (writeMessage k n m (rest k n m w)) refl
+    where
+      go : (a : Answer (List ℕ)) → writeMessage k n m (rest k n m w) ≡ a → Within size (behind w a)
+      go (given bytes) e =
+          let fits = write-writable Messages k n (messageFields m) (rest k n m w) e in
+          let is : bytes ≡ after k n m w = same-given (sym e ∙ write-given Messages k n fits) in
+          let room = fits .room in
+          let long = length-drop (recordSize * w .count) (w .output) in
+          (omega arith, rw is (written-length k n m w fits ∙ h .1))
+      go (refused number) e = h
+
+  all-within : (messages : List Message) (w : Written) → Within size w → Within size (putAll k n w messages)
+  unfolding putAll
+  all-within [] w h = h
+  all-within (m ∷ messages) w h = all-within messages (put k n w m) (put-within w m h)
+
+-- whatever the replica, the records that an accepted step counts stand in the output
+pub step-within : (s : State) (at : LocalTime) (output : List ℕ) {d : Stepped} → step s at output ≡ given d → recordSize * d .count ≤ length output
+unfolding stepped
+step-within s at output e =
+    rw (step-accepted s at output e)
+    (all-within (s .settings .k) (s .settings .groups) (length output) (visits (s .settings .groups) at (atTime at s) .sent) (written 0 output) (omega arith, refl) .0)
+
+-- ── whatever stood there ──
+
+-- as many records, the same ones, in outputs of one length
+record Alike (v w : Written) : Type 0 where
+  count : v .count ≡ w .count
+  long : length (v .output) ≡ length (w .output)
+  front : take (recordSize * v .count) (v .output) ≡ take (recordSize * v .count) (w .output)
+
+alike-back : (v w : Written) → Alike v w → Alike w v
+alike-back v w h = record { count = sym (h .count); long = sym (h .long); front = sym (rw (h .count) at (h .front)) }
+
+module _ (k n : ℕ) (m : Message) where
+  -- where one can be written, so can the other
+  fits : (v w : Written) → Alike v w → Writable Messages k n (messageFields m) (rest k n m v) → Writable Messages k n (messageFields m) (rest k n m w)
+  fits v w h f =
+      record {
+        unit = f .unit;
+        fields = f .fields;
+        room = omega (arith, f .room, h .long, h .count, length-drop (recordSize * v .count) (v .output), length-drop (recordSize * w .count) (w .output));
+      }
+
+  -- what stands in front then
+  front-is : (w : Written) → Writable Messages k n (messageFields m) (rest k n m w)
+      → take (recordSize * (w .count + 1)) (take (recordSize * w .count) (w .output) ++ after k n m w) ≡ take (recordSize * w .count) (w .output) ++ bytesOf (messageFields m)
+  front-is w f =
+      let start = take (recordSize * w .count) (w .output) in
+      let bytes = bytesOf (messageFields m) in
+      let long : length start ≡ recordSize * w .count = length-take-le (recordSize * w .count) (w .output) (omega (arith, f .room, length-drop (recordSize * w .count) (w .output))) in
+      let end : recordSize * (w .count + 1) ≡ length start + length bytes = omega (arith, long, length-bytes-of (messageFields m)) in
+      rw end (take-append-add start (after k n m w) (length bytes) ∙ ap (λ l. start ++ l) (take-append-seam bytes (drop recordSize (rest k n m w))))
+
   -- a record that is written stands in both, one that is refused in neither
   put-alike : (v w : Written) → Alike v w → Alike (put k n v m) (put k n w m)
   unfolding put
-  put-alike v w h = go (writeMessage k n m (rest v)) refl (writeMessage k n m (rest w)) refl
+  put-alike v w h = go (writeMessage k n m (rest k n m v)) refl (writeMessage k n m (rest k n m w)) refl
     where
-      go : (a : Answer (List ℕ)) → writeMessage k n m (rest v) ≡ a → (b : Answer (List ℕ)) → writeMessage k n m (rest w) ≡ b → Alike (behind v a) (behind w b)
+      go : (a : Answer (List ℕ)) → writeMessage k n m (rest k n m v) ≡ a → (b : Answer (List ℕ)) → writeMessage k n m (rest k n m w) ≡ b → Alike (behind v a) (behind w b)
       go (given x) e (given y) f =
-          let fv = write-writable Messages k n (messageFields m) (rest v) e in
-          let fw = write-writable Messages k n (messageFields m) (rest w) f in
-          let is-x : x ≡ after v = same-given (sym e ∙ write-given Messages k n fv) in
-          let is-y : y ≡ after w = same-given (sym f ∙ write-given Messages k n fw) in
+          let fv = write-writable Messages k n (messageFields m) (rest k n m v) e in
+          let fw = write-writable Messages k n (messageFields m) (rest k n m w) f in
+          let is-x : x ≡ after k n m v = same-given (sym e ∙ write-given Messages k n fv) in
+          let is-y : y ≡ after k n m w = same-given (sym f ∙ write-given Messages k n fw) in
           let same : take (recordSize * w .count) (v .output) ≡ take (recordSize * w .count) (w .output) = rw (h .count) at (h .front) in
           rw (is-x, is-y) (record {
             count = omega (arith, h .count);
-            long = written-length v fv ∙ (h .long ∙ sym (written-length w fw));
+            long = written-length k n m v fv ∙ (h .long ∙ sym (written-length k n m w fw));
             front = front-is v fv ∙ rw (h .count) (ap (λ l. l ++ bytesOf (messageFields m)) same ∙ sym (front-is w fw));
           })
       go (given x) e (refused q) f =
-          let both = write-given Messages k n (fits v w h (write-writable Messages k n (messageFields m) (rest v) e)) in
+          let both = write-given Messages k n (fits v w h (write-writable Messages k n (messageFields m) (rest k n m v) e)) in
           absurd (let z : _≡_ {A = ℕ} 0 1 = cc in omega arith)
       go (refused q) e (given y) f =
-          let both = write-given Messages k n (fits w v (turned v w h) (write-writable Messages k n (messageFields m) (rest w) f)) in
+          let both = write-given Messages k n (fits w v (alike-back v w h) (write-writable Messages k n (messageFields m) (rest k n m w) f)) in
           absurd (let z : _≡_ {A = ℕ} 0 1 = cc in omega arith)
       go (refused p) e (refused q) f = h
 
