@@ -4,8 +4,8 @@ use crate::ffi;
 use crate::model::journal::Player;
 use crate::model::record::{MessageFields, RequestFields};
 use crate::model::replica::{Pending, Replica};
-use crate::model::vote::Query;
-use crate::model::{by_value, LocalTime, Settings, Timestamp};
+use crate::model::vote::{Election, HaltCount, Query};
+use crate::model::{by_value, number_of, LocalTime, Refusal, Settings, Timestamp};
 use crate::model::{LIST_LIMIT, PENDING_LIMIT, QUEUES, QUEUE_LIMIT};
 
 /// The by-value replica is compared with the C one, so it is as large.
@@ -103,6 +103,30 @@ pub fn to_list(messages: &[MessageFields], rest: MessageFields) -> ffi::List {
         *place = (*message).into();
     }
     list
+}
+
+impl From<Election> for ffi::Election {
+    fn from(election: Election) -> Self {
+        let Election { value, agreed, other, silent } = election;
+        ffi::Election { value, agreed, other, silent }
+    }
+}
+
+impl From<HaltCount> for ffi::HaltCount {
+    fn from(count: HaltCount) -> Self {
+        ffi::HaltCount { senders: count.senders, size: count.size, halt: count.halt }
+    }
+}
+
+/// Zeros stand beside a refusal.
+pub fn to_vote_result(answer: Result<Election, Refusal>) -> ffi::VoteResult {
+    let refusal = number_of(&answer);
+    ffi::VoteResult { refusal, election: answer.unwrap_or_default().into() }
+}
+
+pub fn to_halt_result(answer: Result<HaltCount, Refusal>) -> ffi::HaltResult {
+    let refusal = number_of(&answer);
+    ffi::HaltResult { refusal, count: answer.unwrap_or_default().into() }
 }
 
 /// What the model's replica was set up with, as the C struct.

@@ -115,11 +115,36 @@ pub struct StepResult {
     pub replica: Replica,
 }
 
+/// A value, and sets of replicas, the lowest bit for replica 1.
 #[repr(C)]
 #[derive(Clone, Copy, Debug, PartialEq, Eq)]
-pub struct ValueResult {
+pub struct Election {
+    pub value: u32,
+    pub agreed: u8,
+    pub other: u8,
+    pub silent: u8,
+}
+
+#[repr(C)]
+#[derive(Clone, Copy, Debug, PartialEq, Eq)]
+pub struct VoteResult {
     pub refusal: u8,
-    pub value: u64,
+    pub election: Election,
+}
+
+#[repr(C)]
+#[derive(Clone, Copy, Debug, PartialEq, Eq)]
+pub struct HaltCount {
+    pub senders: u8,
+    pub size: u8,
+    pub halt: bool,
+}
+
+#[repr(C)]
+#[derive(Clone, Copy, Debug, PartialEq, Eq)]
+pub struct HaltResult {
+    pub refusal: u8,
+    pub count: HaltCount,
 }
 
 /// What goes by value of a unit whose journal is played in blocks.
@@ -163,8 +188,8 @@ extern "C" {
         at: LocalTime,
     ) -> ReplicaResult;
     fn failstop_step(r: Replica, at: LocalTime, output: *mut u8, length: usize) -> StepResult;
-    fn failstop_vote(k: u8, n: u8, q: Query, list: List) -> ValueResult;
-    fn failstop_count_halts(k: u8, n: u8, group: u8, process: u8, list: List) -> ValueResult;
+    fn failstop_vote(k: u8, n: u8, q: Query, list: List) -> VoteResult;
+    fn failstop_count_halts(k: u8, n: u8, group: u8, process: u8, list: List) -> HaltResult;
     fn failstop_play_block(
         p: Player,
         block: *const u8,
@@ -227,12 +252,12 @@ pub fn step(replica: Replica, at: LocalTime, output: &mut [u8]) -> StepResult {
 }
 
 #[inline]
-pub fn vote(k: u8, n: u8, query: Query, list: List) -> ValueResult {
+pub fn vote(k: u8, n: u8, query: Query, list: List) -> VoteResult {
     unsafe { failstop_vote(k, n, query, list) }
 }
 
 #[inline]
-pub fn count_halts(k: u8, n: u8, group: u8, process: u8, list: List) -> ValueResult {
+pub fn count_halts(k: u8, n: u8, group: u8, process: u8, list: List) -> HaltResult {
     unsafe { failstop_count_halts(k, n, group, process, list) }
 }
 

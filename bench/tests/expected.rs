@@ -10,7 +10,7 @@ use bench::model::record::{
     read_message, read_request, write_message, write_request, MessageFields, RequestFields,
 };
 use bench::model::replica::Replica;
-use bench::model::vote::{count_halts, vote, Query};
+use bench::model::vote::{count_halts, vote, Election, HaltCount, Query};
 use bench::model::{LocalTime, Refusal, Timestamp, RECORD_SIZE};
 
 /// What a lent destination or output holds before a call.
@@ -178,12 +178,17 @@ impl Script {
             variable: n.long(4).try_into().expect("16 bits"),
             timestamp: Timestamp(n.long(5)),
         };
-        answer(vote(n.byte(0), n.byte(1), &query, &self.heard), |value| format!("value {value}"))
+        answer(vote(n.byte(0), n.byte(1), &query, &self.heard), |election| {
+            let Election { value, agreed, other, silent } = election;
+            format!("value {value} agreed {agreed} other {other} silent {silent}")
+        })
     }
 
     fn halts(&self, n: &Numbers) -> String {
         let counted = count_halts(n.byte(0), n.byte(1), n.byte(2), n.byte(3), &self.heard);
-        answer(counted, |count| format!("count {count}"))
+        answer(counted, |HaltCount { senders, size, halt }| {
+            format!("count {size} senders {senders}{}", if halt { " halt" } else { "" })
+        })
     }
 }
 

@@ -23,7 +23,10 @@ fn header_is_c_with_the_same_structs() {
         ("failstop_message_result", size_of::<ffi::MessageResult>()),
         ("failstop_replica_result", size_of::<ffi::ReplicaResult>()),
         ("failstop_step_result", size_of::<ffi::StepResult>()),
-        ("failstop_value_result", size_of::<ffi::ValueResult>()),
+        ("failstop_election", size_of::<ffi::Election>()),
+        ("failstop_halt_count", size_of::<ffi::HaltCount>()),
+        ("failstop_vote_result", size_of::<ffi::VoteResult>()),
+        ("failstop_halt_result", size_of::<ffi::HaltResult>()),
         ("failstop_player", size_of::<ffi::Player>()),
         ("failstop_block_result", size_of::<ffi::BlockResult>()),
     ];

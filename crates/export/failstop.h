@@ -5,6 +5,7 @@
 #ifndef FAILSTOP_H
 #define FAILSTOP_H
 
+#include <stdbool.h>
 #include <stddef.h>
 #include <stdint.h>
 
@@ -66,6 +67,26 @@ typedef struct {
     failstop_timestamp timestamp;
 } failstop_query;
 
+/* What a vote gives. A set of replicas has one bit for each replica, the lowest for replica 1. Each of the 2k + 1 is in
+   one of the three. Swap a card by them only after a vote of the owner on a read that is not mixed with a write, over a
+   list that has a reply of every correct replica: then `other` and `silent` hold faulty ones alone. In a guest's vote a
+   correct replica that answered at another moment may stand in `other`, and in `silent` any whose reply is not in
+   the list. */
+typedef struct {
+    uint32_t value;
+    uint8_t agreed; /* its first counting reply has the value */
+    uint8_t other;  /* it has another */
+    uint8_t silent; /* there is none */
+} failstop_election;
+
+/* What a halt count gives: the replicas that sent a counting halt, how many, and whether those are k + 1, so that the
+   process must halt. */
+typedef struct {
+    uint8_t senders;
+    uint8_t size;
+    bool halt;
+} failstop_halt_count;
+
 /* The first `count` messages; more than 64 are refused. */
 typedef struct {
     failstop_message messages[65];
@@ -79,7 +100,8 @@ typedef struct { uint8_t refusal; failstop_message message; } failstop_message_r
 typedef struct { uint8_t refusal; failstop_replica replica; } failstop_replica_result;
 /* `count` records stand at the start of the output, whatever the replica. */
 typedef struct { uint8_t refusal; size_t count; failstop_replica replica; } failstop_step_result;
-typedef struct { uint8_t refusal; uint64_t value; } failstop_value_result;
+typedef struct { uint8_t refusal; failstop_election election; } failstop_vote_result;
+typedef struct { uint8_t refusal; failstop_halt_count count; } failstop_halt_result;
 
 /* Beside the arrays of a unit whose journal is played in blocks. By value, as the replica. A new one is all zeros. */
 typedef struct {
@@ -116,9 +138,9 @@ failstop_step_result failstop_step(
     failstop_replica r, failstop_local_time at, uint8_t *output, size_t length);
 
 /* What a process makes of the messages that it received. */
-failstop_value_result failstop_vote(
+failstop_vote_result failstop_vote(
     uint8_t k, uint8_t n, failstop_query q, failstop_list list);
-failstop_value_result failstop_count_halts(
+failstop_halt_result failstop_count_halts(
     uint8_t k, uint8_t n, uint8_t group, uint8_t process, failstop_list list);
 
 /* Journals in blocks. The arrays hold seven replicas side by side, replica 1's part first; those of a unit are the

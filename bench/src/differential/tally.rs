@@ -85,7 +85,13 @@ pub enum Event {
     ScrambledPlaces,
     DamagedMessage,
     RepeatedMessage,
+    AllAgreed,
+    SomeOther,
+    SomeSilent,
+    SeventhOther,
+    SeventhSilent,
     EveryHalt,
+    HaltsOfK,
     MalformedCall,
     CountPastPlaces,
     NoGroups,
@@ -113,7 +119,7 @@ pub enum Event {
 }
 
 /// For each event its name; each must occur.
-const EVENTS: [(Event, &str); 67] = [
+const EVENTS: [(Event, &str); 73] = [
     (Event::RecordRun, "runs with records"),
     (Event::ReplicaRun, "runs with replicas"),
     (Event::MalformedRun, "runs with malformed arguments"),
@@ -156,7 +162,13 @@ const EVENTS: [(Event, &str); 67] = [
     (Event::ScrambledPlaces, "calls with scrambled free places"),
     (Event::DamagedMessage, "damaged or forged messages in lists"),
     (Event::RepeatedMessage, "repeated messages in lists"),
+    (Event::AllAgreed, "votes in which all agreed"),
+    (Event::SomeOther, "votes with another value"),
+    (Event::SomeSilent, "votes with a silent replica"),
+    (Event::SeventhOther, "votes in which replica 7 gave another value"),
+    (Event::SeventhSilent, "votes in which replica 7 was silent"),
     (Event::EveryHalt, "halt counts of k+1 or more"),
+    (Event::HaltsOfK, "halt counts of k, and k not 0"),
     (Event::MalformedCall, "calls with malformed arguments"),
     (Event::CountPastPlaces, "calls with a count past the places of a group"),
     (Event::NoGroups, "calls with a replica of no groups"),

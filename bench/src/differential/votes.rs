@@ -4,10 +4,10 @@
 use super::records::{settings, some_message};
 use super::tally::{Call, Event, Tally};
 use super::{same, Outcome};
-use crate::convert::to_list;
+use crate::convert::{to_halt_result, to_list, to_vote_result};
 use crate::ffi;
 use crate::model::record::{MessageFields, HALT};
-use crate::model::vote::{count_halts, vote, Query};
+use crate::model::vote::{count_halts, vote, Election, Query};
 use crate::model::{number_of, Settings, Timestamp, LIST_LIMIT};
 use crate::random::Random;
 use crate::traffic;
@@ -51,8 +51,24 @@ fn compare_votes(case: &Case, list: ffi::List, tally: &mut Tally) -> Outcome {
     let expected = vote(case.k, case.n, &case.query, &case.list);
     let found = ffi::vote(case.k, case.n, case.query.into(), list);
     tally.answer(Call::Vote, number_of(&expected));
-    same("refusal", number_of(&expected), found.refusal, input)?;
-    same("value", expected.map_or(0, u64::from), found.value, input)
+    if let Ok(election) = &expected {
+        note_sets(case, election, tally);
+    }
+    same("vote", to_vote_result(expected), found, input)
+}
+
+/// Counts what the sets of a vote show.
+fn note_sets(case: &Case, election: &Election, tally: &mut Tally) {
+    let Election { other, silent, .. } = *election;
+    for (seen, event) in [
+        (other == 0 && silent == 0, Event::AllAgreed),
+        (other != 0, Event::SomeOther),
+        (silent != 0, Event::SomeSilent),
+        (case.k == 3 && other & 0b100_0000 != 0, Event::SeventhOther),
+        (case.k == 3 && silent & 0b100_0000 != 0, Event::SeventhSilent),
+    ] {
+        tally.events(event, u64::from(seen));
+    }
 }
 
 fn compare_halts(case: &Case, list: ffi::List, tally: &mut Tally) -> Outcome {
@@ -61,12 +77,11 @@ fn compare_halts(case: &Case, list: ffi::List, tally: &mut Tally) -> Outcome {
     let expected = count_halts(case.k, case.n, group, process, &case.list);
     let found = ffi::count_halts(case.k, case.n, group, process, list);
     tally.answer(Call::CountHalts, number_of(&expected));
-    same("refusal", number_of(&expected), found.refusal, input)?;
-    let count = expected.unwrap_or(0);
-    if count > usize::from(case.k) {
-        tally.event(Event::EveryHalt);
+    if let Ok(count) = &expected {
+        tally.events(Event::EveryHalt, u64::from(count.halt));
+        tally.events(Event::HaltsOfK, u64::from(count.size > 0 && count.size == case.k));
     }
-    same("number of halts", count as u64, found.value, input)
+    same("halt count", to_halt_result(expected), found, input)
 }
 
 fn some_case(random: &mut Random) -> Case {

@@ -6,7 +6,7 @@ use super::machine::Machine;
 use super::record::{read_message, read_request, write_message, write_request};
 use super::record::{Content, Message, MessageFields, Operation, Request, RequestFields};
 use super::replica::Replica;
-use super::vote::{count_halts, vote, Query};
+use super::vote::{count_halts, vote, Election, HaltCount, Query};
 use super::{number_of, LocalTime, Refusal, Timestamp, OUTPUT_SIZE, QUEUE_LIMIT, TIME_LIMIT};
 
 const OWNER: u8 = 1;
@@ -177,7 +177,8 @@ fn example_12_votes() {
         Message { group: OWNER, process: 1, replica, timestamp, content }.fields()
     };
     let list = [(1, 7), (2, 9), (3, 7)].map(reply);
-    assert_eq!(vote(1, 2, &query, &list), Ok(7));
+    let election = Election { value: 7, agreed: 0b101, other: 0b010, silent: 0 };
+    assert_eq!(vote(1, 2, &query, &list), Ok(election));
     let list = [(3, 9), (3, 9), (1, 7)].map(reply);
     assert_eq!(vote(1, 2, &query, &list), Err(Refusal::NoMajority));
 }
@@ -412,9 +413,10 @@ fn halts_count_replicas_once() {
     };
     let list = [halt(1, 1, 10), halt(1, 1, 11), halt(3, 1, 12), halt(2, 2, 10), halt(9, 1, 10)]
         .map(|message| message.fields());
-    assert_eq!(count_halts(1, 2, OWNER, 1, &list), Ok(2));
-    assert_eq!(count_halts(1, 2, OWNER, 2, &list), Ok(1));
-    assert_eq!(count_halts(1, 2, GUEST, 1, &list), Ok(0));
+    let count = |senders, size, halt| Ok(HaltCount { senders, size, halt });
+    assert_eq!(count_halts(1, 2, OWNER, 1, &list), count(0b101, 2, true));
+    assert_eq!(count_halts(1, 2, OWNER, 2, &list), count(0b010, 1, false));
+    assert_eq!(count_halts(1, 2, GUEST, 1, &list), count(0, 0, false));
 }
 
 #[test]

@@ -27,27 +27,61 @@ impl Query {
     }
 }
 
-/// The value that at least k+1 different replicas replied.
-pub fn vote(k: u8, groups: u8, query: &Query, list: &[MessageFields]) -> Result<u32, Refusal> {
-    let settings = Settings::new(k, groups)?;
-    ask(list.len() <= LIST_LIMIT, Refusal::ListTooLong)?;
-    let values: Vec<u32> = first_values(settings, query, list).into_iter().flatten().collect();
-    let supported = |value: &u32| values.iter().filter(|&v| v == value).count();
-    values
-        .iter()
-        .copied()
-        .find(|value| supported(value) >= settings.quorum())
-        .ok_or(Refusal::NoMajority)
+/// A value, and the replicas by what they replied: one bit for each, the lowest
+/// for replica 1.
+#[derive(Clone, Copy, Debug, Default, PartialEq, Eq)]
+pub struct Election {
+    pub value: u32,
+    pub agreed: u8,
+    pub other: u8,
+    pub silent: u8,
 }
 
-/// How many different replicas sent a halt to the process.
+/// The replicas that sent a halt, how many they are, and whether they are k+1.
+#[derive(Clone, Copy, Debug, Default, PartialEq, Eq)]
+pub struct HaltCount {
+    pub senders: u8,
+    pub size: u8,
+    pub halt: bool,
+}
+
+/// The value that at least k+1 different replicas replied.
+pub fn vote(
+    k: u8,
+    groups: u8,
+    query: &Query,
+    list: &[MessageFields],
+) -> Result<Election, Refusal> {
+    let settings = Settings::new(k, groups)?;
+    ask(list.len() <= LIST_LIMIT, Refusal::ListTooLong)?;
+    let first = first_values(settings, query, list);
+    let supported = |value: &u32| first.iter().filter(|&v| *v == Some(*value)).count();
+    let value = first
+        .iter()
+        .flatten()
+        .copied()
+        .find(|value| supported(value) >= settings.quorum())
+        .ok_or(Refusal::NoMajority)?;
+    let mut election = Election { value, ..Election::default() };
+    for (place, replied) in first[1..].iter().enumerate() {
+        let set = match replied {
+            Some(reply) if *reply == value => &mut election.agreed,
+            Some(_) => &mut election.other,
+            None => &mut election.silent,
+        };
+        *set += 1 << place;
+    }
+    Ok(election)
+}
+
+/// The different replicas that sent a halt to the process.
 pub fn count_halts(
     k: u8,
     groups: u8,
     group: u8,
     process: u8,
     list: &[MessageFields],
-) -> Result<usize, Refusal> {
+) -> Result<HaltCount, Refusal> {
     let settings = Settings::new(k, groups)?;
     ask(list.len() <= LIST_LIMIT, Refusal::ListTooLong)?;
     let mut halted = vec![false; usize::from(settings.replicas()) + 1];
@@ -57,7 +91,13 @@ pub fn count_halts(
             halted[usize::from(message.replica)] = true;
         }
     }
-    Ok(halted.into_iter().filter(|&h| h).count())
+    let senders = (1..=settings.replicas()).filter(|&replica| halted[usize::from(replica)]);
+    let size = senders.clone().count();
+    Ok(HaltCount {
+        senders: senders.map(|replica| 1 << (replica - 1)).sum(),
+        size: size as u8,
+        halt: size >= settings.quorum(),
+    })
 }
 
 /// For each replica number, the value of its first matching reply.

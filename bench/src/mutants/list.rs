@@ -62,6 +62,14 @@ pub enum Mutant {
     HaltsNotReplicas,
     HaltsOfAnyProcess,
     HaltValueIgnored,
+    LowestBitForNobody,
+    LaterReplyAgrees,
+    UpperNotSilent,
+    BitPastTheReplicas,
+    OtherAndSilent,
+    SilentAmongOther,
+    HaltsAtK,
+    SendersShifted,
     ReplicaPutBackElsewhere,
     PlacesFromZero,
     ReplicasBeforeLastRecord,
@@ -97,7 +105,7 @@ const PAIRS: Shown = Shown { in_simulation: false, in_isolation: true };
 const BOTH: Shown = Shown { in_simulation: true, in_isolation: true };
 
 /// For each mutant its bug, and where it shows.
-pub const MUTANTS: [(Mutant, &str, Shown); 77] = [
+pub const MUTANTS: [(Mutant, &str, Shown); 85] = [
     (Mutant::StableAtEquality, "a batch is stable exactly delta after its first arrival", UNITS),
     (Mutant::LatestArrival, "stability counts from the latest arrival", NEITHER),
     (Mutant::UnstableSkipped, "an unstable batch is skipped to serve a later timestamp", UNITS),
@@ -155,6 +163,14 @@ pub const MUTANTS: [(Mutant, &str, Shown); 77] = [
     (Mutant::HaltsNotReplicas, "the halt count counts halts, not replicas", UNITS),
     (Mutant::HaltsOfAnyProcess, "the halt count takes halts to any process", UNITS),
     (Mutant::HaltValueIgnored, "the halt count takes halts with a value", NEITHER),
+    (Mutant::LowestBitForNobody, "the lowest bit of a set is left for a replica 0", UNITS),
+    (Mutant::LaterReplyAgrees, "a later reply moves a replica among those that agreed", NEITHER),
+    (Mutant::UpperNotSilent, "of seven replicas the upper two are never silent", UNITS),
+    (Mutant::BitPastTheReplicas, "a bit past the replicas is set", UNITS),
+    (Mutant::OtherAndSilent, "who gave another value and who was silent are exchanged", NEITHER),
+    (Mutant::SilentAmongOther, "who was silent stands among those of another value too", UNITS),
+    (Mutant::HaltsAtK, "a process must halt at k halts", UNITS),
+    (Mutant::SendersShifted, "the lowest bit of the senders is left for a replica 0", UNITS),
     (Mutant::ReplicaPutBackElsewhere, "a replica is put back in the place of the next", NEITHER),
     (Mutant::PlacesFromZero, "the places of a journal in blocks count from 0", NEITHER),
     (

@@ -6,7 +6,7 @@ use std::slice::{from_raw_parts, from_raw_parts_mut};
 
 use super::arrays::Arrays;
 use super::{blocks, records, replicas, steps, votes};
-use crate::convert::{from_replica, to_replica};
+use crate::convert::{from_replica, to_halt_result, to_replica, to_vote_result};
 use crate::ffi;
 use crate::model::record::MessageFields;
 use crate::model::replica::Replica;
@@ -113,9 +113,8 @@ unsafe extern "C" fn failstop_step(
 }
 
 #[no_mangle]
-extern "C" fn failstop_vote(k: u8, n: u8, q: ffi::Query, list: ffi::List) -> ffi::ValueResult {
-    let result = votes::vote(k, n, &q.into(), messages(&list));
-    ffi::ValueResult { refusal: number_of(&result), value: result.map_or(0, u64::from) }
+extern "C" fn failstop_vote(k: u8, n: u8, q: ffi::Query, list: ffi::List) -> ffi::VoteResult {
+    to_vote_result(votes::vote(k, n, &q.into(), messages(&list)))
 }
 
 #[no_mangle]
@@ -125,10 +124,8 @@ extern "C" fn failstop_count_halts(
     group: u8,
     process: u8,
     list: ffi::List,
-) -> ffi::ValueResult {
-    let result = votes::count_halts(k, n, group, process, messages(&list));
-    let value = result.map_or(0, |count| count as u64);
-    ffi::ValueResult { refusal: number_of(&result), value }
+) -> ffi::HaltResult {
+    to_halt_result(votes::count_halts(k, n, group, process, messages(&list)))
 }
 
 #[no_mangle]

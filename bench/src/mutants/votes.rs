@@ -2,10 +2,15 @@
 
 use super::list::{chosen, is, Mutant};
 use crate::model::record::{MessageFields, HALT, REPLY};
-use crate::model::vote::{self, Query};
+use crate::model::vote::{self, Election, HaltCount, Query};
 use crate::model::{Refusal, LIST_LIMIT, VARIABLES};
 
-pub fn vote(k: u8, n: u8, query: &Query, mut list: Vec<MessageFields>) -> Result<u32, Refusal> {
+pub fn vote(
+    k: u8,
+    n: u8,
+    query: &Query,
+    mut list: Vec<MessageFields>,
+) -> Result<Election, Refusal> {
     match chosen() {
         Some(Mutant::ReplicaCountedTwice) => spread_replicas(k, query, &mut list),
         Some(Mutant::LastReplyWins) => list.reverse(),
@@ -15,7 +20,30 @@ pub fn vote(k: u8, n: u8, query: &Query, mut list: Vec<MessageFields>) -> Result
         Some(Mutant::ReplicaWraps) => wrap_replicas(k, &mut list),
         _ => {}
     }
-    vote::vote(k, n, query, &list)
+    let mut election = vote::vote(k, n, query, &list)?;
+    change_sets(k, query, &list, &mut election);
+    Ok(election)
+}
+
+fn change_sets(k: u8, query: &Query, list: &[MessageFields], election: &mut Election) {
+    let Election { agreed, other, silent, value } = *election;
+    match chosen() {
+        Some(Mutant::LowestBitForNobody) => {
+            *election = Election { value, agreed: agreed << 1, other: other << 1, silent: silent << 1 }
+        }
+        Some(Mutant::LaterReplyAgrees) => {
+            let moved = (1..=7).filter(|&replica| list.contains(&query.reply(replica, value)));
+            let moved = other & moved.map(|replica| 1 << (replica - 1)).sum::<u8>();
+            *election = Election { agreed: agreed | moved, other: other & !moved, ..*election }
+        }
+        Some(Mutant::UpperNotSilent) if k == 3 => election.silent &= 0b1_1111,
+        Some(Mutant::BitPastTheReplicas) => election.silent |= 1 << (2 * k + 1),
+        Some(Mutant::OtherAndSilent) => {
+            *election = Election { other: silent, silent: other, ..*election }
+        }
+        Some(Mutant::SilentAmongOther) => election.other |= silent,
+        _ => {}
+    }
 }
 
 /// Gives each matching reply the number of another replica.
@@ -45,18 +73,23 @@ pub fn count_halts(
     group: u8,
     process: u8,
     mut list: Vec<MessageFields>,
-) -> Result<usize, Refusal> {
+) -> Result<HaltCount, Refusal> {
     if is(Mutant::HaltsOfAnyProcess) {
         list.iter_mut().for_each(|message| message.process = process);
     }
     if is(Mutant::HaltValueIgnored) {
         list.iter_mut().filter(|m| m.kind == HALT).for_each(|message| message.value = 0);
     }
-    let count = vote::count_halts(k, n, group, process, &list)?;
-    if is(Mutant::HaltsNotReplicas) {
-        let addressed =
-            |m: &&MessageFields| m.kind == HALT && m.group == group && m.process == process;
-        return Ok(list.iter().filter(addressed).count());
+    let mut count = vote::count_halts(k, n, group, process, &list)?;
+    match chosen() {
+        Some(Mutant::HaltsNotReplicas) => {
+            let addressed =
+                |m: &&MessageFields| m.kind == HALT && m.group == group && m.process == process;
+            count.size = list.iter().filter(addressed).count() as u8;
+        }
+        Some(Mutant::HaltsAtK) => count.halt = count.size >= k,
+        Some(Mutant::SendersShifted) => count.senders <<= 1,
+        _ => {}
     }
     Ok(count)
 }

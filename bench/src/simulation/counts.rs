@@ -28,6 +28,8 @@ pub struct Counts {
     pub writes: u64,
     pub replies: u64,
     pub votes: u64,
+    pub blamed_other: u64,
+    pub blamed_silent: u64,
     pub halt_counts: u64,
     pub lies: u64,
     pub forged: u64,
@@ -61,7 +63,7 @@ impl Counts {
         for (times, way) in self.ways.iter().zip(WAYS) {
             rows.push((*times, format!("lying replicas: {way}"), true));
         }
-        let more: [(u64, &str, bool); 19] = [
+        let more: [(u64, &str, bool); 21] = [
             (self.with_k_liars, "units with k lying replicas", true),
             (self.busy, "units with a guest that sends more than its queue holds", true),
             (self.discarded, "units without room for a request of the owner", true),
@@ -78,6 +80,8 @@ impl Counts {
             (self.steps, "steps", true),
             (self.served_beside_full, "steps for the owner while a guest's queue was full", true),
             (self.votes, "votes", true),
+            (self.blamed_other, "replicas named for another value, all of them liars", true),
+            (self.blamed_silent, "replicas named for silence, all of them liars", true),
             (self.halt_counts, "halt counts", true),
             (self.lies, "lies in the lists", true),
             (self.forged, "forged lies kept out", true),

@@ -14,7 +14,7 @@ mod player;
 
 pub use counts::Counts;
 
-use crate::convert::to_list;
+use crate::convert::{to_halt_result, to_list};
 use crate::difference::{compare, compare_lists, Difference};
 use crate::ffi;
 use crate::model::machine::Machine;
@@ -89,8 +89,25 @@ fn votes(lists: &Lists, random: &mut Random, counts: &mut Counts) -> Result<(), 
         let found = ffi::vote(k, groups, query.into(), to_list(&list, noise(random)));
         counts.votes += 1;
         let what = format!("vote {query:?} over {list:?}");
-        compare(&what, (0, u64::from(value)), (found.refusal, found.value))?;
+        compare(&what, (0, value), (found.refusal, found.election.value))?;
+        compare_sets(lists.plan, &what, found.election, counts)?;
     }
+    Ok(())
+}
+
+/// Each replica is in one set, and no correct one is blamed: all of them agreed.
+fn compare_sets(
+    plan: &Plan,
+    what: &str,
+    found: ffi::Election,
+    counts: &mut Counts,
+) -> Result<(), String> {
+    let ffi::Election { agreed, other, silent, .. } = found;
+    let twice = agreed & other | agreed & silent | other & silent;
+    compare(&format!("replicas, {what}"), (plan.all_set(), 0), (agreed | other | silent, twice))?;
+    compare(&format!("blamed, {what}"), 0, (other | silent) & plan.correct_set())?;
+    counts.blamed_other += u64::from(other.count_ones());
+    counts.blamed_silent += u64::from(silent.count_ones());
     Ok(())
 }
 
@@ -102,10 +119,13 @@ fn halts(lists: &Lists, random: &mut Random, counts: &mut Counts) -> Result<(), 
         let found = ffi::count_halts(k, groups, owner, process, to_list(&list, noise(random)));
         counts.halt_counts += 1;
         let what = format!("halt count for process {process} over {list:?}");
-        let expected = count_halts(k, groups, owner, process, &list).unwrap_or(0) as u64;
-        compare(&what, (0, expected), (found.refusal, found.value))?;
-        let must_halt = found.value > u64::from(k);
-        compare(&format!("must halt, {what}"), lists.machine.failed(), must_halt)?;
+        compare(&what, to_halt_result(count_halts(k, groups, owner, process, &list)), found)?;
+        let failed = lists.machine.failed();
+        compare(&format!("must halt, {what}"), failed, found.count.halt)?;
+        compare(&format!("k+1 halts, {what}"), failed, found.count.size > k)?;
+        let honest = if failed { lists.plan.correct_set() } else { 0 };
+        let correct_senders = found.count.senders & lists.plan.correct_set();
+        compare(&format!("correct senders, {what}"), honest, correct_senders)?;
     }
     Ok(())
 }

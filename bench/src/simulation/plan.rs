@@ -42,6 +42,16 @@ impl Plan {
         (1..=self.cast.replicas()).filter(|&replica| self.is_correct(replica))
     }
 
+    /// The same as a set, and that of all replicas: one bit for each, the lowest
+    /// for replica 1.
+    pub fn correct_set(&self) -> u8 {
+        self.correct().map(|replica| 1 << (replica - 1)).sum()
+    }
+
+    pub fn all_set(&self) -> u8 {
+        (1..=self.cast.replicas()).map(|replica| 1 << (replica - 1)).sum()
+    }
+
     fn is_correct(&self, replica: u8) -> bool {
         self.liars.iter().all(|liar| liar.number != replica)
     }

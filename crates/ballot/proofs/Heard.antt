@@ -1,6 +1,6 @@
 -- The ballot of a list: of each replica it holds the first reply that counts, and whether a halt that counts came.
 use Prim.Native.Nat.{ℕ, _+_, _≤_, _<_}
-use mathlib.Core.Path.{_≡_, refl, sym, _∙_}
+use mathlib.Core.Path.{_≡_, refl, sym, _∙_, ap}
 use mathlib.Core.Bool.{Bool, true, false, cond, not, _&&_, _||_, and-false, or-false, or-assoc}
 use mathlib.Core.List.{List, [], _∷_}
 use native.Mathlib.Nat.{le-antisymm}
@@ -14,13 +14,13 @@ use Rattle.limits.specs.Limits.{maxList}
 use Rattle.question.proofs.Tests.{case, true-not-false, both, within-true, in-within}
 use Rattle.record.specs.Kind.{reply, halt}
 use Rattle.record.specs.declared.message.Message.{Message}
-use Rattle.rules.specs.Lists.{some}
-use Rattle.rules.specs.Vote.{countsFor, countsAsHalt, says}
+use Rattle.rules.specs.Vote.{countsFor, countsAsHalt, heard, says}
 use Rattle.rules.specs.declared.Query.{Query}
-use Rattle.ballot.specs.Sets.{lastReplica, isReplica, has, lacks}
+use Rattle.rules.specs.Sets.{has, with}
+use Rattle.ballot.specs.Sets.{lastReplica, isReplica, lacks}
 use Rattle.ballot.specs.Ballot.{newBallot, noteReply, noteHalt, isFirstReply, isFirstHalt, hear, hearAll, ballotOf, valueOf, gave}
 use Rattle.ballot.specs.declared.ballot.Ballot.{Ballot}
-use Rattle.ballot.proofs.Bits.{has-none, has-with}
+use Rattle.laws.proofs.Sets.{has-none, has-with}
 
 -- there is a value for each replica
 abbrev Sized : Ballot → Type 0
@@ -101,13 +101,27 @@ module _ (k n : ℕ) (q : Query) where
         heard-cases b m (λ c. noted c v i other ≡ noted b v i (cond (replying m && eqb (m .replica) i) (eqb (m .value) v) other))
         (λ e. first-reply sized e v other) (λ e d. later-reply e v other) (λ e d. later-reply e v other)
 
+    -- a set that takes each replica of which a message counts has that replica
+    noted-has : (set : ℕ) (counts : Bool) → has (cond (counts && lacks set (m .replica)) (with set (m .replica)) set) i ≡ has set i || (counts && eqb (m .replica) i)
+    noted-has set counts = case (counts && lacks set (m .replica))
+        (λ e.
+        let a = both counts (lacks set (m .replica)) e in
+        rw (a .0, a .1) (has-with set (m .replica) i (within-true 1 lastReplica (m .replica) (lacks-parts set (m .replica) (a .1) .0) .0)))
+        (λ e. rw e (case (has set i) (λ h. rw h) (λ h. rw (h, not-noted set counts e h))))
+
+    -- who replied, and who sent a halt
+    heard-replied : has (hear k n q b m .heard) i ≡ has (b .heard) i || (replying m && eqb (m .replica) i)
+    heard-replied = ap (λ (set : ℕ). has set i) taken ∙ noted-has (b .heard) (replying m)
+      where
+        taken : hear k n q b m .heard ≡ cond (isFirstReply k n q b m) (with (b .heard) (m .replica)) (b .heard)
+        taken = heard-cases b m (λ c. c .heard ≡ cond (isFirstReply k n q b m) (with (b .heard) (m .replica)) (b .heard)) (λ e. rw e) (λ e d. rw e) (λ e d. rw e)
+
     heard-halted : has (hear k n q b m .halted) i ≡ has (b .halted) i || (halting m && eqb (m .replica) i)
-    heard-halted = heard-cases b m (λ c. has (c .halted) i ≡ has (b .halted) i || (halting m && eqb (m .replica) i))
-        (λ e. rw (reply-no-halt m (both (replying m) (lacks (b .heard) (m .replica)) e .0)) (sym (or-false (has (b .halted) i))))
-        (λ e d.
-        let a = both (halting m) (lacks (b .halted) (m .replica)) d in
-        rw (a .0) (has-with (b .halted) (m .replica) i (within-true 1 lastReplica (m .replica) (lacks-parts (b .halted) (m .replica) (a .1) .0) .0)))
-        (λ e d. case (has (b .halted) i) (λ h. rw h) (λ h. rw (h, not-noted (b .halted) (halting m) d h)))
+    heard-halted = ap (λ (set : ℕ). has set i) taken ∙ noted-has (b .halted) (halting m)
+      where
+        taken : hear k n q b m .halted ≡ cond (isFirstHalt k n q b m) (with (b .halted) (m .replica)) (b .halted)
+        taken = heard-cases b m (λ c. c .halted ≡ cond (isFirstHalt k n q b m) (with (b .halted) (m .replica)) (b .halted))
+            (λ e. rw (reply-no-halt m (both (replying m) (lacks (b .heard) (m .replica)) e .0))) (λ e d. rw d) (λ e d. rw d)
 
   -- ── message after message ──
 
@@ -123,11 +137,13 @@ module _ (k n : ℕ) (q : Query) where
     all-noted b sized (m ∷ list) v =
         all-noted (hear k n q b m) (heard-sized b sized m) list v ∙ heard-noted i low high b m sized v (says replying i v list)
 
-    all-halted : (b : Ballot) (list : List Message)
-        → has (hearAll k n q b list .halted) i ≡ has (b .halted) i || some (λ m. halting m && eqb (m .replica) i) list
+    -- a set that takes, at each message, the replica of one that counts: in the end it has all those of which one counts
+    all-has : (set : Ballot → ℕ) (counts : Message → Bool)
+        → ((b : Ballot) (m : Message) → has (set (hear k n q b m)) i ≡ has (set b) i || (counts m && eqb (m .replica) i))
+        → (b : Ballot) (list : List Message) → has (set (hearAll k n q b list)) i ≡ has (set b) i || heard counts list i
     unfolding hearAll
-    all-halted b [] = sym (or-false (has (b .halted) i))
-    all-halted b (m ∷ list) = all-halted (hear k n q b m) list ∙ rw (heard-halted i low high b m, or-assoc)
+    all-has set counts takes b [] = sym (or-false (has (set b) i))
+    all-has set counts takes b (m ∷ list) = all-has set counts takes (hear k n q b m) list ∙ rw (takes b m, or-assoc)
 
   -- ── the tally ──
 
@@ -165,10 +181,11 @@ module _ (k n : ℕ) (q : Query) where
           new-noted : noted fresh v i (says replying i v list) ≡ says replying i v list
           new-noted = rw (has-none i)
 
-      -- a replica halted of which a halt that counts came
-      pub ballot-halted : has (ballotOf k n q list .halted) i ≡ some (λ m. halting m && eqb (m .replica) i) list
+      -- a replica is heard of which a reply that counts came, and has halted of which a halt that counts came
+      pub ballot-heard : has (ballotOf k n q list .heard) i ≡ heard replying list i
       unfolding newBallot
-      ballot-halted = all-halted i low high fresh list ∙ new-halted
-        where
-          new-halted : has (fresh .halted) i || some (λ m. halting m && eqb (m .replica) i) list ≡ some (λ m. halting m && eqb (m .replica) i) list
-          new-halted = rw (has-none i)
+      ballot-heard = all-has i low high (λ b. b .heard) replying (heard-replied i low high) fresh list ∙ rw (has-none i)
+
+      pub ballot-halted : has (ballotOf k n q list .halted) i ≡ heard halting list i
+      unfolding newBallot
+      ballot-halted = all-has i low high (λ b. b .halted) halting (heard-halted i low high) fresh list ∙ rw (has-none i)

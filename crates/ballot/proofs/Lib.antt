@@ -1,4 +1,3 @@
-pub mod Numbers
 pub mod Bits
 pub mod Heard
 pub mod Answers

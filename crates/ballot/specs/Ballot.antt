@@ -1,18 +1,21 @@
 -- The ballot: what is noted of each replica, message after message, and what it says. That this is what crates/rules
 -- says of the list is proved in proofs/Answers.antt.
-use Prim.Native.Nat.{ℕ, zero, suc, _+_}
+use Prim.Native.Nat.{ℕ, zero, suc, _+_, _*_}
 use mathlib.Core.Bool.{Bool, cond, _&&_}
 use mathlib.Core.List.{List, [], _∷_, _++_}
+use lib.Count.{ones}
 use lib.Dec.{eqb, leb}
 use lib.ListN.{length, getD, set, replicate}
 use Rattle.limits.specs.Limits.{maxList}
 use Rattle.question.specs.Question.{Question, _else_, Answer, given, refused, ask, unitQuestions}
 use Rattle.layout.specs.declared.clock.Timestamp.{Timestamp}
 use Rattle.record.specs.declared.message.Message.{Message}
-use Rattle.rules.specs.Lists.{tally}
-use Rattle.rules.specs.Vote.{countsFor, countsAsHalt}
+use Rattle.rules.specs.Sets.{has, with}
+use Rattle.rules.specs.Vote.{countsFor, countsAsHalt, electionBy, haltsBy}
+use Rattle.rules.specs.declared.Election.{Election}
+use Rattle.rules.specs.declared.HaltCount.{HaltCount}
 use Rattle.rules.specs.declared.Query.{Query}
-use Rattle.ballot.specs.Sets.{lastReplica, has, lacks, with}
+use Rattle.ballot.specs.Sets.{lastReplica, lacks}
 use Rattle.ballot.specs.declared.ballot.Ballot.{Ballot}
 
 -- ── by their fields ──
@@ -78,19 +81,16 @@ valueOf b replica = getD (b .values) replica 0
 abbrev pub gave : Ballot → ℕ → ℕ → Bool
 gave b value replica = has (b .heard) replica && eqb (valueOf b replica) value
 
--- how many replicas gave the value
-unfoldable pub supportIn : Ballot → ℕ → ℕ
-supportIn b value = tally (gave b value) lastReplica
+-- the unit's replicas by what they gave
+abbrev pub electionIn : ℕ → Ballot → ℕ → Election
+electionIn k b value = electionBy k value (has (b .heard)) (gave b value)
 
--- the value of a replica up to the given one that at least k + 1 replicas gave
-unfoldable pub electIn : ℕ → Ballot → ℕ → Answer ℕ
+-- the value of a replica up to the given one that at least k + 1 of the unit's replicas gave
+unfoldable pub electIn : ℕ → Ballot → ℕ → Answer Election
 electIn k b zero = refused 17
 electIn k b (suc i) =
-    cond (has (b .heard) (suc i) && leb (k + 1) (supportIn b (valueOf b (suc i)))) (given (valueOf b (suc i))) (electIn k b i)
-
--- how many replicas halted
-unfoldable pub haltsIn : Ballot → ℕ
-haltsIn b = tally (has (b .halted)) lastReplica
+    let e = electionIn k b (valueOf b (suc i)) in
+    cond (has (b .heard) (suc i) && leb (k + 1) (ones (e .agreed))) (given e) (electIn k b i)
 
 -- ── what is answered ──
 
@@ -99,9 +99,9 @@ abbrev pub ballotQuestions : ℕ → ℕ → Ballot → List Question
 ballotQuestions k n b = unitQuestions k n ++ ((b .short else 16) ∷ [])
 
 -- the vote
-unfoldable pub voteOn : ℕ → ℕ → Ballot → Answer ℕ
-voteOn k n b = ask (ballotQuestions k n b) (electIn k b lastReplica)
+unfoldable pub voteOn : ℕ → ℕ → Ballot → Answer Election
+voteOn k n b = ask (ballotQuestions k n b) (electIn k b (2 * k + 1))
 
 -- the halt count
-unfoldable pub haltCountOn : ℕ → ℕ → Ballot → Answer ℕ
-haltCountOn k n b = ask (ballotQuestions k n b) (given (haltsIn b))
+unfoldable pub haltCountOn : ℕ → ℕ → Ballot → Answer HaltCount
+haltCountOn k n b = ask (ballotQuestions k n b) (given (haltsBy k (has (b .halted))))

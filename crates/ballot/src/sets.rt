@@ -1,7 +1,9 @@
 // Sets of replicas: one bit for each replica, the lowest for replica 1.
 ghost use mathlib.Core.Path.{_≡_};
-ghost use Prim.Native.Nat.{_≤_};
-ghost use Rattle.ballot.specs.Sets.{lastReplica, isReplica, has, lacks, with};
+ghost use Prim.Native.Nat.{_+_, _*_, _-_, _^_, _≤_};
+ghost use Rattle.limits.specs.Limits.{maxK};
+ghost use Rattle.rules.specs.Sets.{has, with};
+ghost use Rattle.ballot.specs.Sets.{lastReplica, isReplica, lacks};
 use limits::MAX_REPLICAS;
 use question::is_within;
 
@@ -37,4 +39,12 @@ pub(crate) fn with(set: u8, replica: usize) -> u8
     ensures { λ r. ⌜ r ≡ with set replica ⌝ }
 {
     set | (1u8 << (replica - 1))
+}
+
+// All 2k + 1 replicas of a unit.
+pub(crate) fn replicas_of(k: u8) -> u8
+    requires { ⌜ k ≤ maxK ⌝ }
+    ensures { λ r. ⌜ r ≡ 2 ^ (2 * k + 1) - 1 ⌝ }
+{
+    (1u8 << (2 * k + 1)) - 1
 }

@@ -2,6 +2,8 @@
 use question::Outcome;
 use record::Message;
 use record::Request;
+use rules::Election;
+use rules::HaltCount;
 
 pub(crate) fn number(n: u64) {
     io::write_all(1, b" ");
@@ -40,6 +42,28 @@ pub(crate) fn message(m: Message) {
 pub(crate) fn accepted(m: Message) {
     io::write_all(1, b" -> accepted");
     message(m);
+}
+
+// The sets as bytes.
+pub(crate) fn election(e: Election) {
+    io::write_all(1, b" -> value");
+    number(e.value as u64);
+    io::write_all(1, b" agreed");
+    byte(e.agreed);
+    io::write_all(1, b" other");
+    byte(e.other);
+    io::write_all(1, b" silent");
+    byte(e.silent);
+}
+
+pub(crate) fn halts(h: HaltCount) {
+    io::write_all(1, b" -> count");
+    byte(h.size);
+    io::write_all(1, b" senders");
+    byte(h.senders);
+    if h.halt {
+        io::write_all(1, b" halt");
+    }
 }
 
 pub(crate) fn outcome(o: Outcome) {

@@ -39,10 +39,7 @@ pub(crate) fn show_vote(s: Scan, h: Heard) {
     };
     let list = h.list;
     match vote::vote_in(s.byte(0), s.byte(1), q, list, h.count) {
-        VoteAnswer::Value(x) => {
-            io::write_all(1, b" -> value");
-            crate::show::number(x as u64);
-        }
+        VoteAnswer::Elected(e) => crate::show::election(e),
         VoteAnswer::Refused(n) => crate::show::refused(n),
     }
 }
@@ -50,10 +47,7 @@ pub(crate) fn show_vote(s: Scan, h: Heard) {
 pub(crate) fn show_halts(s: Scan, h: Heard) {
     let list = h.list;
     match vote::count_halts_in(s.byte(0), s.byte(1), s.byte(2), s.byte(3), list, h.count) {
-        HaltAnswer::Count(n) => {
-            io::write_all(1, b" -> count");
-            crate::show::number(n as u64);
-        }
+        HaltAnswer::Counted(h) => crate::show::halts(h),
         HaltAnswer::Refused(n) => crate::show::refused(n),
     }
 }

@@ -9,7 +9,7 @@ use mathlib.Core.List.{List, [], _∷_, List·Memᴰ, List·Memᴰ·head, List·
 use native.Mathlib.Omega.{arith}
 use lib.Dec.{eqb, leb}
 use lib.ListN.{replicate}
-use borrow.Author.Tests.{eqb-true, eqb-false, ltb-false, leb-true, leb-false}
+use borrow.Author.Tests.{eqb-true, eqb-false, ltb-true, ltb-false, leb-true, leb-false}
 use Rattle.question.specs.Question.{given, ask, unitQuestions}
 use Rattle.layout.specs.Number.{number, digits}
 use Rattle.layout.specs.Layout.{fieldsOf, bytesOf}
@@ -19,7 +19,10 @@ use Rattle.rules.specs.Batch.{valueOf, failed, verdictOf, replyWith, handle}
 use Rattle.rules.specs.Replica.{make, admit, deliver, handleBatch, visit, visitGroup, visits, put, putAll, stepped, step}
 use Rattle.rules.specs.Run.{messagesIn, call, run, exchanges}
 use Rattle.rules.specs.Machine.{react, reactAll, machine}
+use Rattle.rules.specs.Sets.{has}
 use Rattle.rules.specs.Vote.{queryOf, haltsFor, vote, haltCount}
+use Rattle.rules.specs.declared.Election.{Election}
+use Rattle.rules.specs.declared.HaltCount.{HaltCount}
 use Rattle.rules.specs.Sample.{wrote}
 use Rattle.rules.specs.EdgeUnits.{five, lying, lateRead, lateBag, lateCalls, lie, lateHeard, splitBag, splitCalls, stopped, splitHeard}
 use Rattle.failstop.specs.Suppose.{Correct, Supposed, Authentic, CompleteForRead, CompleteForHalts}
@@ -93,11 +96,15 @@ late-complete i ok = (replyWith 7 i lateRead, heard i ok, record { matched = ref
         (List·Memᴰ·tail (List·Memᴰ·tail (List·Memᴰ·tail (List·Memᴰ·tail (List·Memᴰ·tail (List·Memᴰ·head refl))))))
         (List·Memᴰ·tail (List·Memᴰ·tail (List·Memᴰ·tail (List·Memᴰ·tail (List·Memᴰ·tail (List·Memᴰ·tail (List·Memᴰ·head refl)))))))
 
--- the vote gives the value that was written, not the one on which the liars agree
-pub late-vote-gives-written : vote 2 2 (queryOf lateRead) lateHeard ≡ given 7
+-- the vote gives the value that was written, not the one on which the liars agree, and these alone stand apart
+pub late-vote-gives-written : (e : Election) × (vote 2 2 (queryOf lateRead) lateHeard ≡ given e) × (e .value ≡ 7)
+    × ((i : ℕ) → Correct five lying i → has (e .agreed) i ≡ true)
+    × ((i : ℕ) → has (e .other) i ≡ true → i < 3) × ((i : ℕ) → has (e .silent) i ≡ true → i < 3)
 unfolding verdictOf react reactAll machine
 late-vote-gives-written =
-    late-holds .elected lateRead (List·Memᴰ·tail (List·Memᴰ·tail (List·Memᴰ·tail (List·Memᴰ·head refl)))) refl lateHeard (omega arith) late-authentic late-complete
+    let v =
+    late-holds .elected lateRead (List·Memᴰ·tail (List·Memᴰ·tail (List·Memᴰ·tail (List·Memᴰ·head refl)))) refl lateHeard (omega arith) late-authentic late-complete in
+    (v .0, v .1, v .2 .value, v .2 .agreed, λ i e. ltb-true i 3 (v .2 .other i e .2), λ i e. ltb-true i 3 (v .2 .silent i e .2))
 
 -- no correct replica sends a halt, and the two false ones stop nobody
 pub late-complete-halts : CompleteForHalts five lying (accountOf five lateCalls) 3 lateHeard
@@ -106,11 +113,13 @@ late-complete-halts i ok m j t =
     let failed-then = late-holds .halted i ok 3 (omega arith) (omega arith) .0 in
     true-not-false false (failed-then (in-some (haltsFor 1 3) (accountOf five lateCalls i .sent) m j t)) refl
 
-pub two-false-halts-short : (n : ℕ) × (haltCount 2 2 1 3 lateHeard ≡ given n) × (n < 3)
+pub two-false-halts-short : (h : HaltCount) × (haltCount 2 2 1 3 lateHeard ≡ given h) × (h .size < 3) × (h .halt ≡ false)
+    × ((i : ℕ) → has (h .senders) i ≡ true → i < 3)
 unfolding verdictOf react reactAll machine
 two-false-halts-short =
     let c = late-holds .counted 3 (omega arith) (omega arith) lateHeard (omega arith) late-authentic late-complete-halts in
-    (c .0, c .1, case (leb 3 (c .0)) (λ e. true-not-false false (c .2 .0 (leb-true 3 (c .0) e)) refl) (λ e. leb-false 3 (c .0) e))
+    let short : c .0 .size < 3 = case (leb 3 (c .0 .size)) (λ e. true-not-false false (c .2 .size .0 (leb-true 3 (c .0 .size) e)) refl) (λ e. leb-false 3 (c .0 .size) e) in
+    (c .0, c .1, short, c .2 .halt, λ i e. ltb-true i 3 (c .2 .none refl i e .2))
 
 -- ── a dissent halts the last process too ──
 
@@ -158,9 +167,10 @@ split-complete i ok m j t = subst (λ x. List·Memᴰ x splitHeard) (sym (last m
     heard : (i : ℕ) → Correct five lying i → List·Memᴰ (stopped i 3) splitHeard
     heard = last-three (λ i. List·Memᴰ (stopped i 3) splitHeard) (List·Memᴰ·head refl) (List·Memᴰ·tail (List·Memᴰ·head refl)) (List·Memᴰ·tail (List·Memᴰ·tail (List·Memᴰ·head refl)))
 
--- the count tells process k + 1 to halt
-pub last-process-halts : (n : ℕ) × (haltCount 2 2 1 3 splitHeard ≡ given n) × (3 ≤ n)
+-- the count tells process k + 1 to halt, by each of the correct replicas
+pub last-process-halts : (h : HaltCount) × (haltCount 2 2 1 3 splitHeard ≡ given h) × (3 ≤ h .size) × (h .halt ≡ true)
+    × ((i : ℕ) → Correct five lying i → has (h .senders) i ≡ true)
 unfolding verdictOf react reactAll machine
 last-process-halts =
     let c = split-holds .counted 3 (omega arith) (omega arith) splitHeard (omega arith) split-authentic split-complete in
-    (c .0, c .1, c .2 .1 refl)
+    (c .0, c .1, c .2 .size .1 refl, c .2 .halt, c .2 .all refl)

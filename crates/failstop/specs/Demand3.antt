@@ -1,8 +1,8 @@
 -- The third demand: one claim about whole runs, by their accounts, and about what is voted and counted on their messages.
-use Prim.Native.Nat.{ℕ, _+_, _≤_}
+use Prim.Native.Nat.{ℕ, _+_, _*_, _≤_}
 use mathlib.Core.Path.{_≡_}
 use mathlib.Core.Logic.{_↔_}
-use mathlib.Core.Bool.{Bool, true}
+use mathlib.Core.Bool.{Bool, true, false}
 use mathlib.Core.List.{List, [], _∷_, map, List·Memᴰ, List·Permᴰ}
 use lib.Dec.{eqb, ltb}
 use lib.ListN.{length}
@@ -16,7 +16,10 @@ use Rattle.rules.specs.Batch.{Store, Effect, valueOf, failed, allReads, replyWi
 use Rattle.rules.specs.Replica.{stamped, requestsOf}
 use Rattle.rules.specs.Run.{toGroup}
 use Rattle.rules.specs.Machine.{machine, signedBy}
+use Rattle.rules.specs.Sets.{has}
 use Rattle.rules.specs.Vote.{queryOf, haltsFor, vote, haltCount}
+use Rattle.rules.specs.declared.Election.{Election}
+use Rattle.rules.specs.declared.HaltCount.{HaltCount}
 use Rattle.rules.specs.declared.Settings.{Settings}
 use Rattle.failstop.specs.Suppose.{Account, Correct, Authentic, CompleteForRead, CompleteForHalts}
 
@@ -52,6 +55,30 @@ pub record SameButReplies (a b : List Message) : Type 0 where
   pub left : Rising a
   pub right : Rising b
 
+-- ── what a vote and a halt count tell ──
+
+-- a set has every correct replica
+abbrev pub AllCorrect : Settings → (ℕ → Bool) → ℕ → Type 0
+AllCorrect u faulty set = (i : ℕ) → Correct u faulty i → has set i ≡ true
+
+-- a set has faulty replicas of the unit, and nobody else: it blames no correct one
+abbrev pub OnlyFaulty : Settings → (ℕ → Bool) → ℕ → Type 0
+OnlyFaulty u faulty set = (i : ℕ) → has set i ≡ true → (1 ≤ i) × (i ≤ 2 * u .k + 1) × (faulty i ≡ true)
+
+-- the vote returns the value, every correct replica agreed, and whoever gave another value or none is faulty
+pub record Returns (u : Settings) (faulty : ℕ → Bool) (v : ℕ) (e : Election) : Type 0 where
+  pub value : e .value ≡ v
+  pub agreed : AllCorrect u faulty (e .agreed)
+  pub other : OnlyFaulty u faulty (e .other)
+  pub silent : OnlyFaulty u faulty (e .silent)
+
+-- the halt count reaches k + 1 exactly when the machine failed: then every correct replica is a sender, and else only faulty ones are
+pub record Reaches (u : Settings) (faulty : ℕ → Bool) (failure : Bool) (h : HaltCount) : Type 0 where
+  pub size : (u .k + 1 ≤ h .size) ↔ (failure ≡ true)
+  pub halt : h .halt ≡ failure
+  pub all : failure ≡ true → AllCorrect u faulty (h .senders)
+  pub none : failure ≡ false → OnlyFaulty u faulty (h .senders)
+
 -- ── what is claimed ──
 
 -- all that is claimed of the accounts, and of votes and halt counts on their messages
@@ -69,11 +96,11 @@ pub record Demand3 (u : Settings) (faulty : ℕ → Bool) (accounts : ℕ → Ac
   -- a halt to each of the owner's processes exactly when the machine failed
   pub halted : (i : ℕ) → Correct u faulty i → (process : ℕ) → 1 ≤ process → process ≤ u .k + 1
       → (some (haltsFor (u .owner) process) (accounts i .sent) ≡ true) ↔ (failed (machineOf u bag .state) ≡ true)
-  -- the vote on each such read returns the machine's value, whatever the faulty replicas sent
+  -- the vote on each such read returns the machine's value, whatever the faulty replicas sent, and blames only those
   pub elected : (r : Request) → List·Memᴰ r bag → Unmixed bag r
       → (list : List Message) → length list ≤ maxList → Authentic u faulty accounts list → CompleteForRead u faulty r list
-      → vote (u .k) (u .groups) (queryOf r) list ≡ given (valueAt u bag r)
+      → (e : Election) × (vote (u .k) (u .groups) (queryOf r) list ≡ given e) × Returns u faulty (valueAt u bag r) e
   -- the halt count for each of the owner's processes reaches k + 1 exactly when the machine failed
   pub counted : (process : ℕ) → 1 ≤ process → process ≤ u .k + 1
       → (list : List Message) → length list ≤ maxList → Authentic u faulty accounts list → CompleteForHalts u faulty accounts process list
-      → (n : ℕ) × (haltCount (u .k) (u .groups) (u .owner) process list ≡ given n) × ((u .k + 1 ≤ n) ↔ (failed (machineOf u bag .state) ≡ true))
+      → (h : HaltCount) × (haltCount (u .k) (u .groups) (u .owner) process list ≡ given h) × Reaches u faulty (failed (machineOf u bag .state)) h

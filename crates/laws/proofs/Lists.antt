@@ -188,6 +188,11 @@ pub tally-bound : (p : ℕ → Bool) (n : ℕ) → tally p n ≤ n
 tally-bound p zero = omega arith
 tally-bound p (suc n) = let h = tally-bound p n in case (p (suc n)) (λ e. rw e (omega arith)) (λ e. rw e (omega arith))
 
+-- tests that agree on 1 to n have the same tally
+pub tally-same : (p q : ℕ → Bool) (n : ℕ) → ((i : ℕ) → 1 ≤ i → i ≤ n → p i ≡ q i) → tally p n ≡ tally q n
+tally-same p q zero h = refl
+tally-same p q (suc n) h = rw (h (suc n) (omega arith) (omega arith), tally-same p q n (λ i lo hi. h i lo (omega arith)))
+
 -- what a weaker test lets pass is at least as many
 pub tally-weaker : (p q : ℕ → Bool) (n : ℕ) → ((i : ℕ) → 1 ≤ i → i ≤ n → p i ≡ true → q i ≡ true) → tally p n ≤ tally q n
 tally-weaker p q zero h = omega arith

@@ -1,2 +1,3 @@
 pub mod Handled
 pub mod Output
+pub mod Parts

@@ -76,7 +76,7 @@ elect-numbers : (k : ℕ) (test : Message → Bool) (list candidates : List Mess
 unfolding elect
 elect-numbers k test list [] = λ n e. List·Memᴰ·head {x = 17} (cc)
 elect-numbers k test list (m ∷ candidates) =
-    cond-listed (17 ∷ []) (test m && leb (k + 1) (support k test list (m .value))) _ _ (given-listed (17 ∷ []) (m .value)) (elect-numbers k test list candidates)
+    cond-listed (17 ∷ []) (test m && leb (k + 1) (support k test list (m .value))) _ _ (given-listed (17 ∷ []) _) (elect-numbers k test list candidates)
 
 pub vote-numbers : (k n : ℕ) (q : Query) (list : List Message) → Listed voteNumbers (vote k n q list)
 unfolding vote unitQuestions

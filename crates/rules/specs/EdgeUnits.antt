@@ -2,7 +2,7 @@
 -- that the arrival rule allows, each closing step comes at the first that it may, process k + 1 reads and halts, and one list of messages
 -- is as long as a vote takes it.
 use Prim.Native.Nat.{ℕ}
-use mathlib.Core.Bool.{Bool, cond}
+use mathlib.Core.Bool.{Bool, true, false, cond}
 use mathlib.Core.List.{List, [], _∷_}
 use lib.Dec.{eqb, ltb}
 use lib.ListN.{replicate}
@@ -90,8 +90,8 @@ edgeRows =
         sent = (replyWith 7 3 lateRead ∷ []) ∷ (replyWith 7 4 lateRead ∷ []) ∷ (replyWith 7 5 lateRead ∷ []) ∷ [];
         held = seven;
         said = replyWith 7 nobody lateRead ∷ [];
-        voted = given 7;
-        counted = given 2;
+        voted = given (record { value = 7; agreed = 28; other = 3; silent = 0 });
+        counted = given (record { senders = 3; size = 2; halt = false });
       };
     }
     ∷ record {
@@ -106,7 +106,7 @@ edgeRows =
         held = frozen;
         said = stopped nobody 1 ∷ stopped nobody 2 ∷ stopped nobody 3 ∷ [];
         voted = refused 17;
-        counted = given 3;
+        counted = given (record { senders = 28; size = 3; halt = true });
       };
     }
     ∷ []

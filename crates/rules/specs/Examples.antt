@@ -9,6 +9,7 @@ use Rattle.rules.specs.Replica.{State, newState, pendingIn, requestsOf, 
 use Rattle.rules.specs.Run.{Call, delivery, turn, call, run, exchanges, arrivals}
 use Rattle.rules.specs.Machine.{machine}
 use Rattle.rules.specs.Vote.{vote}
+use Rattle.rules.specs.declared.Election.{Election}
 use Rattle.rules.specs.Sample.{settings, wrote, asked, deliverAt, stepAt, Figures, figures}
 
 -- ── what is done ──
@@ -22,7 +23,7 @@ pub data Example : Type 0 where
 pub data Seen : Type 0 where
   -- the replica's figures, how many requests are pending, the answers of its steps, what it sent, the machine's figures
   saw : Figures → ℕ → List (Answer ℕ) → List Message → Figures → Seen
-  voted : Answer ℕ → Seen
+  voted : Answer Election → Seen
 
 -- the answers of the steps of a list of calls: how many messages each sent
 abbrev stepAnswers : State → List Call → List (Answer ℕ)
@@ -86,7 +87,7 @@ rows =
     -- timestamp 20 arrives at 100, timestamp 10 at 104: a step at 106 does nothing, at 110 it handles 10, then 20
     ∷ row 11 (play (deliverAt 100 (asked 1 1 20 4) ∷ deliverAt 104 (asked 1 2 10 4) ∷ stepAt 106 ∷ [])) (saw fresh 2 (given 0 ∷ []) [] fresh)
     ∷ row 11 (play (deliverAt 100 (asked 1 1 20 4) ∷ deliverAt 104 (asked 1 2 10 4) ∷ stepAt 106 ∷ stepAt 110 ∷ [])) (saw fresh 0 (given 0 ∷ given 2 ∷ []) (replyWith 0 1 (asked 1 2 10 4) ∷ replyWith 0 1 (asked 1 1 20 4) ∷ []) fresh)
-    -- replies 7, 9, 7 from replicas 1, 2, 3; then 9, 9 from replica 3 and 7 from replica 1
-    ∷ row 12 (poll (replyWith 7 1 (asked 1 1 10 4) ∷ replyWith 9 2 (asked 1 1 10 4) ∷ replyWith 7 3 (asked 1 1 10 4) ∷ [])) (voted (given 7))
+    -- replies 7, 9, 7 from replicas 1, 2, 3: 1 and 3 agreed, 2 gave another value; then 9, 9 from replica 3 and 7 from replica 1
+    ∷ row 12 (poll (replyWith 7 1 (asked 1 1 10 4) ∷ replyWith 9 2 (asked 1 1 10 4) ∷ replyWith 7 3 (asked 1 1 10 4) ∷ [])) (voted (given (record { value = 7; agreed = 5; other = 2; silent = 0 })))
     ∷ row 12 (poll (replyWith 9 3 (asked 1 1 10 4) ∷ replyWith 9 3 (asked 1 1 10 4) ∷ replyWith 7 1 (asked 1 1 10 4) ∷ [])) (voted (refused 17))
     ∷ []

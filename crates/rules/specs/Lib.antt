@@ -3,6 +3,7 @@ pub mod Batch
 pub mod Replica
 pub mod Run
 pub mod Machine
+pub mod Sets
 pub mod Vote
 pub mod Owner
 pub mod Numbers

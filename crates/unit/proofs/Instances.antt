@@ -5,9 +5,13 @@ use mathlib.Core.Path.{_≡_, refl, ap}
 use mathlib.Core.Bool.{true}
 use mathlib.Core.List.{List·Memᴰ·head, List·Memᴰ·tail}
 use native.Mathlib.Omega.{arith}
+use borrow.Author.Tests.{eqb-true}
 use Rattle.rules.specs.Batch.{valueOf, failed, verdictOf}
 use Rattle.rules.specs.Machine.{react, reactAll, machine}
+use Rattle.rules.specs.Sets.{has}
 use Rattle.rules.specs.Vote.{queryOf}
+use Rattle.rules.specs.declared.Election.{Election}
+use Rattle.rules.specs.declared.HaltCount.{HaltCount}
 use Rattle.rules.specs.Sample.{settings}
 use Rattle.rules.specs.Units.{theRead, readBag, readCalls, heard, haltBag, haltCalls, stops}
 use Rattle.failstop.specs.Suppose.{Correct}
@@ -32,14 +36,18 @@ pub structs-hold-written : (i : ℕ) → Correct settings (only 3) i → valueOf
 unfolding verdictOf react reactAll machine
 structs-hold-written i ok = ap (valueOf 4) (read-unit .claims .holds i ok)
 
--- and the code's vote gives what was written before the read, whatever the liar said
-pub code-votes-written : (answer : VoteAnswer) → Votes 1 2 (queryOf theRead) heard answer → answer ≡ VoteAnswer.Value 7
+-- and the code's vote gives what was written before the read, whatever the liar said, and nobody but the liar stands apart
+pub code-votes-written : (answer : VoteAnswer) → Votes 1 2 (queryOf theRead) heard answer
+    → (e : Election) × (answer ≡ VoteAnswer.Elected e) × (e .value ≡ 7) × ((i : ℕ) → Correct settings (only 3) i → has (e .agreed) i ≡ true)
+    × ((i : ℕ) → has (e .other) i ≡ true → i ≡ 3) × ((i : ℕ) → has (e .silent) i ≡ true → i ≡ 3)
 unfolding verdictOf react reactAll machine
-code-votes-written =
+code-votes-written answer votes =
+    let v =
     read-unit .elected theRead (List·Memᴰ·tail (List·Memᴰ·tail (List·Memᴰ·head refl))) refl heard (omega arith)
     (authentic-same settings (only 3) (accountOf settings readCalls) (accounts settings (livesOf settings readCalls))
     (lives-same settings (only 3) readCalls read-ran) heard heard-authentic)
-    heard-complete
+    heard-complete answer votes in
+    (v .0, v .1, v .2 .value, v .2 .agreed, λ i e. eqb-true i 3 (v .2 .other i e .2), λ i e. eqb-true i 3 (v .2 .silent i e .2))
 
 -- ── a dissent halts the processes ──
 
@@ -51,7 +59,8 @@ unfolding verdictOf react reactAll machine
 structs-failed i ok = ap failed (halt-unit .claims .holds i ok)
 
 -- and the code's halt count tells process 1 to halt
-pub code-counts-halts : (answer : HaltAnswer) → Counts 1 2 1 1 stops answer → (n : ℕ) × (answer ≡ HaltAnswer.Count n) × (2 ≤ n)
+pub code-counts-halts : (answer : HaltAnswer) → Counts 1 2 1 1 stops answer
+    → (h : HaltCount) × (answer ≡ HaltAnswer.Counted h) × (2 ≤ h .size) × (h .halt ≡ true) × ((i : ℕ) → Correct settings (only 1) i → has (h .senders) i ≡ true)
 unfolding verdictOf react reactAll machine
 code-counts-halts answer counts =
     let same = lives-same settings (only 1) haltCalls halt-ran in
@@ -61,4 +70,4 @@ code-counts-halts answer counts =
     (authentic-same settings (only 1) (accountOf settings haltCalls) own same stops stops-authentic)
     (complete-same settings (only 1) (accountOf settings haltCalls) own same 1 stops stops-complete)
     answer counts in
-    (c .0, c .1, c .2 .1 refl)
+    (c .0, c .1, c .2 .size .1 refl, c .2 .halt, c .2 .all refl)

@@ -7,6 +7,8 @@ use native.Mathlib.Omega.{arith}
 use Rattle.question.specs.Question.{given}
 use Rattle.record.specs.declared.request.Request.{Request}
 use Rattle.rules.specs.Run.{Call}
+use Rattle.rules.specs.declared.Election.{Election}
+use Rattle.rules.specs.declared.HaltCount.{HaltCount}
 use Rattle.rules.specs.declared.Settings.{Settings}
 use Rattle.failstop.specs.Suppose.{Correct}
 use Rattle.failstop.specs.Runs as rules
@@ -20,14 +22,14 @@ use Rattle.unit.specs.Unit.{accounts, UnitRan, Demand3OfCode}
 use Rattle.unit.proofs.Accounts.{callsOf, life-ran, life-account}
 use Rattle.unit.proofs.Same.{supposed-same, claims-same}
 
--- an answer of the code that stands for a value is that value
-value-is : (answer : VoteAnswer) {value : ℕ} → voteAnswer answer ≡ given value → answer ≡ VoteAnswer.Value value
-value-is (VoteAnswer.Value v) {value} e = let i : v ≡ value = cc in rw i
-value-is (VoteAnswer.Refused number) e = absurd (let z : _≡_ {A = ℕ} 0 1 = cc in omega arith)
+-- an answer of the code that stands for an election is that election, and so with a count
+election-is : (answer : VoteAnswer) {e : Election} → voteAnswer answer ≡ given e → answer ≡ VoteAnswer.Elected e
+election-is (VoteAnswer.Elected v) {e} given-so = let i : v ≡ e = cc in rw i
+election-is (VoteAnswer.Refused number) given-so = absurd (let z : _≡_ {A = ℕ} 0 1 = cc in omega arith)
 
-count-is : (answer : HaltAnswer) {count : ℕ} → haltAnswer answer ≡ given count → answer ≡ HaltAnswer.Count count
-count-is (HaltAnswer.Count c) {count} e = let i : c ≡ count = cc in rw i
-count-is (HaltAnswer.Refused number) e = absurd (let z : _≡_ {A = ℕ} 0 1 = cc in omega arith)
+count-is : (answer : HaltAnswer) {h : HaltCount} → haltAnswer answer ≡ given h → answer ≡ HaltAnswer.Counted h
+count-is (HaltAnswer.Counted c) {h} given-so = let i : c ≡ h = cc in rw i
+count-is (HaltAnswer.Refused number) given-so = absurd (let z : _≡_ {A = ℕ} 0 1 = cc in omega arith)
 
 module _ (u : Settings) (faulty : ℕ → Bool) (lives : ℕ → Life) (bag : List Request) (ran : UnitRan u faulty lives bag) where
   -- each replica's calls, without their answers
@@ -47,7 +49,8 @@ module _ (u : Settings) (faulty : ℕ → Bool) (lives : ℕ → Life) (bag : Li
   demand3-of-code = record {
     claims = claimed;
     elected = λ r sent unmixed list short authentic complete answer votes.
-        value-is answer (votes ∙ claimed .elected r sent unmixed list (omega (arith, short)) authentic complete);
+        let v = claimed .elected r sent unmixed list (omega (arith, short)) authentic complete in
+        (v .0, election-is answer (votes ∙ v .1), v .2);
     counted = λ process low high list short authentic complete answer counts.
         let c = claimed .counted process low (omega (arith, high)) list (omega (arith, short)) authentic complete in
         (c .0, count-is answer (counts ∙ c .1), c .2);

@@ -1,8 +1,7 @@
 -- The third demand of the code: a unit of replicas that the code made and ran, and votes and halt counts of the code on their messages.
 use Prim.Native.Nat.{ℕ, _+_, _≤_}
 use mathlib.Core.Path.{_≡_}
-use mathlib.Core.Logic.{_↔_}
-use mathlib.Core.Bool.{Bool, true}
+use mathlib.Core.Bool.{Bool}
 use mathlib.Core.List.{List, List·Memᴰ}
 use lib.ListN.{length}
 use Rattle.limits.specs.Limits.{maxList}
@@ -10,9 +9,11 @@ use Rattle.record.specs.declared.message.Message.{Message}
 use Rattle.record.specs.declared.request.Request.{Request}
 use Rattle.rules.specs.Batch.{failed}
 use Rattle.rules.specs.Vote.{queryOf}
+use Rattle.rules.specs.declared.Election.{Election}
+use Rattle.rules.specs.declared.HaltCount.{HaltCount}
 use Rattle.rules.specs.declared.Settings.{Settings}
 use Rattle.failstop.specs.Suppose.{Account, accountIn, Correct, Authentic, CompleteForRead, CompleteForHalts, Supposed}
-use Rattle.failstop.specs.Demand3.{machineOf, valueAt, Unmixed, Demand3}
+use Rattle.failstop.specs.Demand3.{machineOf, valueAt, Unmixed, Returns, Reaches, Demand3}
 use Rattle.state.specs.State.{stateOf}
 use Rattle.ballot.specs.declared.count.VoteAnswer.{VoteAnswer}
 use Rattle.ballot.specs.declared.count.HaltAnswer.{HaltAnswer}
@@ -36,12 +37,14 @@ pub record UnitRan (u : Settings) (faulty : ℕ → Bool) (lives : ℕ → Life)
 pub record Demand3OfCode (u : Settings) (faulty : ℕ → Bool) (lives : ℕ → Life) (bag : List Request) : Type 0 where
   -- the third demand, of the accounts
   pub claims : Demand3 u faulty (accounts u lives) bag
-  -- whatever the code answers to a vote on one of the owner's reads that is not mixed with a write, it is the machine's value
+  -- whatever the code answers to a vote on one of the owner's reads that is not mixed with a write, it is the machine's value, with
+  -- every correct replica among those that agreed
   pub elected : (r : Request) → List·Memᴰ r bag → Unmixed bag r
       → (list : List Message) → length list ≤ maxList → Authentic u faulty (accounts u lives) list → CompleteForRead u faulty r list
-      → (answer : VoteAnswer) → Votes (u .k) (u .groups) (queryOf r) list answer → answer ≡ VoteAnswer.Value (valueAt u bag r)
-  -- and to a halt count for one of the owner's processes, it is a number that reaches k + 1 exactly when the machine failed
+      → (answer : VoteAnswer) → Votes (u .k) (u .groups) (queryOf r) list answer
+      → (e : Election) × (answer ≡ VoteAnswer.Elected e) × Returns u faulty (valueAt u bag r) e
+  -- and to a halt count for one of the owner's processes, it is a count that reaches k + 1 exactly when the machine failed
   pub counted : (process : ℕ) → 1 ≤ process → process ≤ u .k + 1
       → (list : List Message) → length list ≤ maxList → Authentic u faulty (accounts u lives) list → CompleteForHalts u faulty (accounts u lives) process list
       → (answer : HaltAnswer) → Counts (u .k) (u .groups) (u .owner) process list answer
-      → (n : ℕ) × (answer ≡ HaltAnswer.Count n) × ((u .k + 1 ≤ n) ↔ (failed (machineOf u bag .state) ≡ true))
+      → (h : HaltCount) × (answer ≡ HaltAnswer.Counted h) × Reaches u faulty (failed (machineOf u bag .state)) h

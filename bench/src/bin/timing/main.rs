@@ -12,7 +12,7 @@ use bench::convert::{to_list, to_replica};
 use bench::ffi;
 use bench::model::record::{self, MessageFields, Operation, Request, HALT};
 use bench::model::replica::Replica;
-use bench::model::vote::{count_halts, vote, Query};
+use bench::model::vote::{count_halts, vote, Election, Query};
 use bench::model::{
     by_value, LocalTime, Refusal, Timestamp, GROUP_LIMIT, K_LIMIT, LIST_LIMIT, OUTPUT_SIZE,
     QUEUE_LIMIT, RECORD_SIZE,
@@ -307,7 +307,10 @@ fn votes(table: &mut Table) {
 }
 
 #[inline(never)]
-fn vote_by_value(query: &Query, list: [MessageFields; LIST_LIMIT]) -> Result<u32, Refusal> {
+fn vote_by_value(
+    query: &Query,
+    list: [MessageFields; LIST_LIMIT],
+) -> Result<Election, Refusal> {
     vote(K, GROUPS, query, black_box(&list))
 }
 

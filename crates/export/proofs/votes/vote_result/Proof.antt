@@ -6,9 +6,6 @@ use Rattle.export.proofs.votes.vote_result.Tie as tie
 enum-known-a : tie.Need-enum-known-a
 enum-known-a c = search needs
 
-cast-t5 : tie.Need-cast-t5
-cast-t5 c = search needs
-
 enum-known-a-2 : tie.Need-enum-known-a-2
 enum-known-a-2 c = search needs
 
@@ -19,4 +16,4 @@ returns-2 : tie.Need-returns-2
 returns-2 c = rw (c .before .a2 .given .1) refl
 
 pub vote-result-spec : {M : Type 1} → statement M
-vote-result-spec = tie.close (tie.spec enum-known-a cast-t5 enum-known-a-2 returns returns-2)
+vote-result-spec = tie.close (tie.spec enum-known-a enum-known-a-2 returns returns-2)

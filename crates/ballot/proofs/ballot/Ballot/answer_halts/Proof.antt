@@ -1,5 +1,6 @@
 -- The questions are asked by themselves: on a yes, the count is the answer.
-use Rattle.ballot.proofs.Answers.{halts-next}
+use mathlib.Core.Path.{refl}
+use Rattle.ballot.proofs.Answers.{halts-next, asked-small}
 use borrow.Author.Needs.{needs}
 use Rattle.ballot.proofs.ballot.Ballot.answer_halts.Statement.{statement}
 use Rattle.ballot.proofs.ballot.Ballot.answer_halts.Tie as tie
@@ -11,7 +12,9 @@ enum-told : tie.Need-enum-told
 enum-told c = search needs
 
 halts-requires : tie.Need-halts-requires
-halts-requires c κs = search needs
+halts-requires c κs =
+    let b = c .before .before .before in
+    asked-small (b .args .k) (b .args .n) (b .args .self) _ (c .before .before .check .ensures) (rw (c .enum-told .given .1) refl)
 
 enum-known-number : tie.Need-enum-known-number
 enum-known-number c = search needs

@@ -1,5 +1,6 @@
 -- The questions are asked by themselves: on a yes, the election is the answer.
-use Rattle.ballot.proofs.Answers.{vote-next}
+use Rattle.ballot.proofs.Answers.{vote-next, asked-small}
+use mathlib.Core.Path.{refl}
 use borrow.Author.Needs.{needs}
 use Rattle.ballot.proofs.ballot.Ballot.answer_vote.Statement.{statement}
 use Rattle.ballot.proofs.ballot.Ballot.answer_vote.Tie as tie
@@ -11,7 +12,9 @@ enum-told : tie.Need-enum-told
 enum-told c = search needs
 
 elect-requires : tie.Need-elect-requires
-elect-requires c κs = search needs
+elect-requires c κs =
+    let b = c .before .before .before in
+    asked-small (b .args .k) (b .args .n) (b .args .self) _ (c .before .before .check .ensures) (rw (c .enum-told .given .1) refl)
 
 enum-known-number : tie.Need-enum-known-number
 enum-known-number c = search needs

@@ -1,14 +1,21 @@
-use Rattle.ballot.specs.Ballot.{haltsIn}
-use Rattle.ballot.proofs.Bits.{ones-masked, ones-small}
+use borrow.Author.Needs.{needs}
+use Rattle.ballot.proofs.Bits.{size-fits, halts-masked}
 use Rattle.ballot.proofs.ballot.Ballot.halts.Statement.{statement}
 use Rattle.ballot.proofs.ballot.Ballot.halts.Tie as tie
 
-cast-result : tie.Need-cast-result
-cast-result c = record { fits = ones-small (c .before .args .self .halted) }
+replicas-of-requires : tie.Need-replicas-of-requires
+replicas-of-requires c κs = search needs
+
+cast-size : tie.Need-cast-size
+cast-size c =
+    let b = c .before .before in
+    record { fits = rw (c .before .replicas-of .ensures) (size-fits (b .args .self .halted) (b .args .k) (b .pre)) }
+
+add-t5 : tie.Need-add-t5
+add-t5 c = search needs
 
 returns : tie.Need-returns
-unfolding haltsIn
-returns c = ones-masked (c .before .args .self .halted)
+returns c = halts-masked _ _ _ (c .before .replicas-of .ensures)
 
 pub halts-spec : {M : Type 1} → statement M
-halts-spec = tie.close (tie.spec cast-result returns)
+halts-spec = tie.close (tie.spec replicas-of-requires cast-size add-t5 returns)
