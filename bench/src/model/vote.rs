@@ -46,12 +46,7 @@ pub struct HaltCount {
 }
 
 /// The value that at least k+1 different replicas replied.
-pub fn vote(
-    k: u8,
-    groups: u8,
-    query: &Query,
-    list: &[MessageFields],
-) -> Result<Election, Refusal> {
+pub fn vote(k: u8, groups: u8, query: &Query, list: &[MessageFields]) -> Result<Election, Refusal> {
     let settings = Settings::new(k, groups)?;
     ask(list.len() <= LIST_LIMIT, Refusal::ListTooLong)?;
     let first = first_values(settings, query, list);

@@ -29,7 +29,8 @@ fn change_sets(k: u8, query: &Query, list: &[MessageFields], election: &mut Elec
     let Election { agreed, other, silent, value } = *election;
     match chosen() {
         Some(Mutant::LowestBitForNobody) => {
-            *election = Election { value, agreed: agreed << 1, other: other << 1, silent: silent << 1 }
+            *election =
+                Election { value, agreed: agreed << 1, other: other << 1, silent: silent << 1 }
         }
         Some(Mutant::LaterReplyAgrees) => {
             let moved = (1..=7).filter(|&replica| list.contains(&query.reply(replica, value)));

@@ -19,7 +19,6 @@ use Rattle.rules.specs.declared.Query.{Query}
 use Rattle.laws.proofs.Ballot.{elect-wins, elect-refused, election-same}
 use Rattle.laws.proofs.Lists.{tally-hit, tally-same}
 use Rattle.laws.proofs.Sets.{set-same, ones-set}
-use Rattle.ballot.specs.Sets.{lastReplica}
 use Rattle.ballot.specs.Ballot.{ballotOf, valueOf, gave, electionIn, electIn, ballotQuestions, voteOn, haltCountOn}
 use Rattle.ballot.specs.declared.ballot.Ballot.{Ballot}
 use Rattle.ballot.proofs.Heard.{ballot-short, ballot-gave, ballot-heard, ballot-halted}

@@ -37,16 +37,16 @@ unit-shift k small = ap (λ (x : ℕ). x % 256) (one-mul (2 ^ (2 * k + 1))) ∙ 
 pub unit-fits : (k : ℕ) → k ≤ maxK → 1 ≤ 1 * 2 ^ (2 * k + 1) % 256
 unit-fits k small = rw (unit-shift k small) (pow-pos (2 * k + 1))
 
--- and a count of them too
-pub size-fits : (set k : ℕ) → k ≤ maxK → ones (bitAnd set (2 ^ (2 * k + 1) - 1)) < 2 ^ 8
-size-fits set k small =
-    omega (arith, ap ones (set-mask set (2 * k + 1)), ones-set (has set) (2 * k + 1), tally-bound (has set) (2 * k + 1))
-
 -- ── the answers ──
 
 -- a set cut to the unit's replicas
 cut : (set k unit : ℕ) → unit ≡ 2 ^ (2 * k + 1) - 1 → bitAnd set unit ≡ setOf (has set) (2 * k + 1)
 cut set k unit e = ap (bitAnd set) e ∙ set-mask set (2 * k + 1)
+
+-- how many there are fits a byte
+pub size-fits : (set k unit : ℕ) → unit ≡ 2 ^ (2 * k + 1) - 1 → k ≤ maxK → ones (bitAnd set unit) < 2 ^ 8
+size-fits set k unit e small =
+    omega (arith, ap ones (cut set k unit e), ones-set (has set) (2 * k + 1), tally-bound (has set) (2 * k + 1))
 
 pub halts-masked : (set k unit : ℕ) → unit ≡ 2 ^ (2 * k + 1) - 1
     → record { senders = bitAnd set unit; size = ones (bitAnd set unit); halt = leb (k + 1) (ones (bitAnd set unit)) } ≡ haltsBy k (has set)

@@ -307,10 +307,7 @@ fn votes(table: &mut Table) {
 }
 
 #[inline(never)]
-fn vote_by_value(
-    query: &Query,
-    list: [MessageFields; LIST_LIMIT],
-) -> Result<Election, Refusal> {
+fn vote_by_value(query: &Query, list: [MessageFields; LIST_LIMIT]) -> Result<Election, Refusal> {
     vote(K, GROUPS, query, black_box(&list))
 }
 

@@ -9,7 +9,7 @@ replicas-of-requires c κs = search needs
 cast-size : tie.Need-cast-size
 cast-size c =
     let b = c .before .before in
-    record { fits = rw (c .before .replicas-of .ensures) (size-fits (b .args .self .halted) (b .args .k) (b .pre)) }
+    record { fits = size-fits (b .args .self .halted) (b .args .k) _ (c .before .replicas-of .ensures) (b .pre) }
 
 add-t5 : tie.Need-add-t5
 add-t5 c = search needs
