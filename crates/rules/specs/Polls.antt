@@ -35,7 +35,7 @@ abbrev row : Answer Election → Answer Election → Row
 row expected answer = record { answer = voted answer; expected = voted expected }
 
 -- a value, and the sets of those who agreed, gave another, and were silent: 5 is replicas 1 and 3
-abbrev pub elected : ℕ → ℕ → ℕ → ℕ → Answer Election
+abbrev elected : ℕ → ℕ → ℕ → ℕ → Answer Election
 elected value agreed other silent = given (record { value = value; agreed = agreed; other = other; silent = silent })
 
 -- a reply of a replica with a value
@@ -107,7 +107,7 @@ abbrev haltRow : Answer HaltCount → Answer HaltCount → Row
 haltRow expected answer = record { answer = counted answer; expected = counted expected }
 
 -- the senders, how many, and whether the process must halt
-abbrev pub senders : ℕ → ℕ → Bool → Answer HaltCount
+abbrev senders : ℕ → ℕ → Bool → Answer HaltCount
 senders set size halt = given (record { senders = set; size = size; halt = halt })
 
 -- a halt of a replica, at a timestamp of its own
