@@ -68,10 +68,10 @@ typedef struct {
 } failstop_query;
 
 /* What a vote gives. A set of replicas has one bit for each replica, the lowest for replica 1. Each of the 2k + 1 is in
-   one of the three. Swap a card by them only after a vote of the owner on a read that is not mixed with a write, over a
-   list that has a reply of every correct replica: then `other` and `silent` hold faulty ones alone. In a guest's vote a
-   correct replica that answered at another moment may stand in `other`, and in `silent` any whose reply is not in
-   the list. */
+   one of the three. For whoever swaps cards: under the third demand's premises (docs/THEOREM.md), after a vote of the
+   owner on a read that is not mixed with a write, over an unforged list that has a reply of every correct replica,
+   `other` and `silent` hold faulty ones alone. No other vote proves anything: in a guest's a correct replica that
+   answered at another moment may stand in `other`, and in `silent` any whose reply is not in the list. */
 typedef struct {
     uint32_t value;
     uint8_t agreed; /* its first counting reply has the value */
@@ -80,7 +80,9 @@ typedef struct {
 } failstop_election;
 
 /* What a halt count gives: the replicas that sent a counting halt, how many, and whether those are k + 1, so that the
-   process must halt. */
+   process must halt. To have sent a halt is no fault by itself. Under the same premises, for a process of the owner and
+   over an unforged list that has every halt of a correct replica to it: where `halt` is false the senders are faulty,
+   and where it is true every correct replica is a sender, so that whoever is missing is faulty. */
 typedef struct {
     uint8_t senders;
     uint8_t size;
