@@ -1,38 +1,30 @@
 -- No call is refused with the number 0: where a C function answers 0, it gave what it was asked for.
-use Prim.Native.Nat.{ℕ, _<_}
-use mathlib.Core.Path.{_≡_, refl}
-use mathlib.Core.Bool.{true, and-eq-true-iff}
-use mathlib.Core.List.{List, List·Memᴰ, List·Memᴰ·head, List·Memᴰ·tail}
-use native.Mathlib.Omega.{arith}
-use lib.Dec.{ltb}
-use borrow.Author.Tests.{ltb-true}
+use Prim.Native.Nat.{ℕ}
+use mathlib.Core.Path.{_≡_, refl, ap}
+use mathlib.Core.Bool.{true}
+use mathlib.Core.List.{List}
 use Rattle.question.specs.Question.{Answer, given, refused, isGiven, Listed}
 use Rattle.record.specs.Record.{readRequest, readMessage, writeRequest, writeMessage}
 use Rattle.layout.specs.declared.clock.LocalTime.{LocalTime}
 use Rattle.record.specs.declared.message.Message.{Message}
 use Rattle.record.specs.declared.request.Request.{Request}
-use Rattle.rules.specs.Lists.{every}
-use Rattle.rules.specs.Numbers.{makeNumbers, readRequestNumbers, readMessageNumbers, writeRequestNumbers, writeMessageNumbers, deliverNumbers, stepNumbers, voteNumbers, haltCountNumbers}
+use Rattle.rules.specs.Numbers.{makeNumbers, readRequestNumbers, readMessageNumbers, writeRequestNumbers, writeMessageNumbers, deliverNumbers, stepNumbers, voteNumbers, haltCountNumbers, lacks}
 use Rattle.rules.specs.declared.Settings.{Settings}
 use Rattle.rules.specs.declared.Query.{Query}
 use Rattle.rules.specs.Replica.{State, make, deliver, step}
 use Rattle.rules.specs.Vote.{vote, haltCount}
 use Rattle.rules.proofs.Numbers.{read-request-numbers, read-message-numbers, write-request-numbers, write-message-numbers, make-numbers, deliver-numbers, step-numbers, vote-numbers, halt-count-numbers}
+use Rattle.laws.proofs.Numbers.{listed-never}
 use Rattle.export.specs.Result.{refusalOf}
 
 -- an answer of 0 is no refusal
 abbrev Told : {A : Type 0} → Answer A → Type 0
 Told answer = refusalOf answer ≡ 0 → isGiven answer ≡ true
 
-above-zero : (numbers : List ℕ) {number : ℕ} → every (ltb 0) numbers ≡ true → List·Memᴰ number numbers → 0 < number
-above-zero numbers p (List·Memᴰ·head {x = x} {xs = xs} e) =
-    omega (arith, ltb-true 0 x (and-eq-true-iff (ltb 0 x) (every (ltb 0) xs) .0 p .0), e)
-above-zero numbers p (List·Memᴰ·tail {x = x} {xs = xs} m) = above-zero xs (and-eq-true-iff (ltb 0 x) (every (ltb 0) xs) .0 p .1) m
-
 -- a refusal has a number of its call's list, and 0 is in none
-listed-told : {A : Type 0} (numbers : List ℕ) (answer : Answer A) → every (ltb 0) numbers ≡ true → Listed numbers answer → Told answer
+listed-told : {A : Type 0} (numbers : List ℕ) (answer : Answer A) → lacks 0 numbers ≡ true → Listed numbers answer → Told answer
 listed-told numbers (given a) p h = λ e. refl
-listed-told numbers (refused number) p h = λ e. absurd (omega (arith, above-zero numbers p (h number refl), e))
+listed-told numbers (refused number) p h = λ e. absurd (listed-never 0 numbers p h (ap refused e))
 
 -- ── records ──
 

@@ -9,10 +9,12 @@ use Rattle.question.specs.Question.{within}
 use Rattle.question.proofs.Questions.{AllYes, all-yes-parts, all-yes-both}
 use Rattle.question.proofs.Tests.{both, other, within-true}
 use Rattle.record.specs.Kind.{write, isOf, rowOf}
-use Rattle.record.specs.Record.{hasSender, senderQuestions, allowsVariable, sparesZero, allowsValue, contentQuestions, fieldQuestions}
+use Rattle.record.specs.Record.{hasSender, senderQuestions, allowsVariable, sparesZero, allowsValue, contentQuestions, fieldQuestions, requestFields, messageFields}
 use Rattle.layout.specs.declared.fields.Fields.{Fields}
 use Rattle.record.specs.declared.kind.Family.{Family}
-use Rattle.record.specs.declared.kind.Family.the-variants.{Messages}
+use Rattle.record.specs.declared.kind.Family.the-variants.{Requests, Messages}
+use Rattle.record.specs.declared.request.Request.{Request}
+use Rattle.record.specs.declared.message.Message.{Message}
 use Rattle.record.proofs.Rows.{greatest-small, bytes6-spare, bytes20-spare}
 
 pub record FieldFacts (family : Family) (k n : ℕ) (f : Fields) : Type 0 where
@@ -29,21 +31,20 @@ module _ (family : Family) (k n : ℕ) (f : Fields) where
   unfolding fieldQuestions
   field-facts all =
       let parts = all-yes-parts (senderQuestions family k f) (contentQuestions family f) (all .1 .1 .1) in
-      let zero = both (sparesZero family f) (allowsValue f) (parts .1 .1 .0) in
       record {
         kind = all .0;
         group = all .1 .0;
         process = all .1 .1 .0;
         sender = parts .0;
         variable = parts .1 .0;
-        spares = zero .0;
-        value = zero .1;
+        spares = parts .1 .1 .0;
+        value = parts .1 .1 .1 .0;
       }
 
   pub facts-asked : FieldFacts family k n f → AllYes (fieldQuestions family k n f)
   unfolding fieldQuestions
   facts-asked h =
-      let last : AllYes (contentQuestions family f) = (h .variable, (rw (h .spares, h .value), tt)) in
+      let last : AllYes (contentQuestions family f) = (h .variable, (h .spares, (h .value, tt))) in
       (h .kind, (h .group, (h .process, all-yes-both (senderQuestions family k f) (contentQuestions family f) (h .sender) last)))
 
 -- ── what follows from them ──
@@ -77,6 +78,14 @@ module _ {family : Family} {k n : ℕ} {f : Fields} (h : FieldFacts family k n f
 
   pub no-sender : hasSender family ≡ false → f .replica ≡ 0
   no-sender e = zero-where (hasSender family) (f .replica) (first-two .0) e
+
+-- ── what is written: its spare bytes are zero, whatever it is ──
+
+pub request-spares : (r : Request) → sparesZero Requests (requestFields r) ≡ true
+request-spares r = rw (bytes6-spare (r .kind), bytes20-spare (r .kind))
+
+pub message-spares : (m : Message) → sparesZero Messages (messageFields m) ≡ true
+message-spares m = rw (bytes6-spare (m .kind), bytes20-spare (m .kind))
 
 -- a message's sender is a replica of the unit
 pub message-sender : {k n : ℕ} {f : Fields} → FieldFacts Messages k n f → (1 ≤ f .replica) × (f .replica ≤ 2 * k + 1)

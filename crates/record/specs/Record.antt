@@ -33,13 +33,14 @@ senderQuestions Neither k f = []
 abbrev pub allowsVariable : Fields → Bool
 allowsVariable f = within (rowOf (f .kind) .least) (rowOf (f .kind) .greatest) (f .variable)
 
--- byte 3, bytes 6–7 and bytes 20–23 are zero where nothing stands in them
+-- every byte outside the value that must be zero is: byte 3, bytes 6–7 and bytes 20–23, where nothing stands in them
 abbrev pub sparesZero : Family → Fields → Bool
 sparesZero family f =
     (hasSender family || eqb (f .replica) 0)
     && (rowOf (f .kind) .bytes6 || eqb (f .spare6) 0)
     && (rowOf (f .kind) .bytes20 || eqb (f .spare20) 0)
 
+-- a read or a halt carries no value: bytes 16–19
 abbrev pub allowsValue : Fields → Bool
 allowsValue f = rowOf (f .kind) .value || eqb (f .value) 0
 
@@ -50,14 +51,15 @@ partyQuestions family k n f =
     ∷ (within 1 (k + 1) (f .process) else 9)
     ∷ senderQuestions family k f
 
--- what it carries: 10 and 11
+-- what it carries: 10, then document 02's 21 and 22 in the place of document 01's 11
 abbrev pub contentQuestions : Family → Fields → List Question
 contentQuestions family f =
     (allowsVariable f else 10)
-    ∷ (sparesZero family f && allowsValue f else 11)
+    ∷ (sparesZero family f else 21)
+    ∷ (allowsValue f else 22)
     ∷ []
 
--- 7 to 11, with 5 of a message's sender after 9
+-- 7, 8, 9, 5 of a message's sender, 10, 21 and 22
 unfoldable pub fieldQuestions : Family → ℕ → ℕ → Fields → List Question
 fieldQuestions family k n f = (isOf family (f .kind) else 7) ∷ (partyQuestions family k n f ++ contentQuestions family f)
 

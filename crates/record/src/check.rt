@@ -73,18 +73,22 @@ fn check_parties(family: Family, k: u8, n: u8, f: Fields) -> Outcome
         .then(check_sender(family, k, f))
 }
 
-// Questions 10 and 11: what the record carries.
+// Questions 10, 21 and 22: what the record carries.
 fn check_content(family: Family, row: Row, f: Fields) -> Outcome
     requires { ⌜ row ≡ rowOf (f .kind) ⌝ }
     ensures { λ o. ⌜ outcome o ≡ ask (contentQuestions family f) (given worked) ⌝ }
 {
+    let variable = allows_variable(row, f);
+    let spares = spares_zero(family, row, f);
+    let value = allows_value(row, f);
     Outcome::Done
-        .ask(allows_variable(row, f), 10)
-        .ask(spares_zero(family, row, f) & allows_value(row, f), 11)
+        .ask(variable, 10)
+        .ask(spares, 21)
+        .ask(value, 22)
 }
 
-// Questions 7 to 11, with 5 of a message's sender after 9. A refusal ends them: the compiler makes a
-// branch of it, which costs less than to ask the others too.
+// Questions 7, 8, 9, 5 of a message's sender, 10, 21 and 22. A refusal ends them: the compiler makes
+// a branch of it, which costs less than to ask the others too.
 pub(crate) fn check_fields(family: Family, k: u8, n: u8, f: Fields) -> Outcome
     ensures { λ o. ⌜ outcome o ≡ ask (fieldQuestions family k n f) (given worked) ⌝ }
 {
@@ -105,7 +109,7 @@ pub(crate) fn check_length(k: u8, n: u8, length: usize) -> Outcome
     check_unit(k, n).ask(length == RECORD, 6)
 }
 
-// Questions 1, 2, 7 to 11 and 15: of the fields that are to be written, and the room for them.
+// Questions 1, 2, those of the fields that are to be written, and 15: the room for them.
 pub(crate) fn check_write(family: Family, k: u8, n: u8, f: Fields, room: usize) -> Outcome
     ensures { λ o. ⌜ outcome o ≡ ask (writeQuestions family k n f room) (given worked) ⌝ }
 {

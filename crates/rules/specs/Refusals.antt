@@ -69,7 +69,7 @@ waiting own others group = cond (eqb group 1) own others
 abbrev idle : ℕ → State
 idle last = replica last (waiting 0 0)
 
--- a read that fails question 11 alone
+-- a read that fails question 22 alone
 abbrev valued : Request
 valued = record { kind = read; group = 1; process = 1; variable = 4; timestamp = record { 0 = 10 }; value = 9 }
 
@@ -109,7 +109,7 @@ callRows =
     ∷ refuses 8 (handed (idle 0) (asked 3 1 10 4) 100)
     ∷ refuses 9 (handed (idle 0) (asked 1 3 10 4) 100)
     -- and they come before 12, 12 before 13, 13 before 14
-    ∷ refuses 11 (handed (idle 0) valued (2 ^ 62 + 1))
+    ∷ refuses 22 (handed (idle 0) valued (2 ^ 62 + 1))
     ∷ refuses 12 (delivered (2 ^ 62 + 2) (2 ^ 62 + 1))
     ∷ refuses 13 (handed (replica 100 (waiting 16 0)) (asked 1 1 10 4) 99)
     -- the same of a step; room for 67 records
