@@ -128,7 +128,9 @@ fn unchanged(entries: &[Entry]) -> Vec<u8> {
 /// Requests that are refused, all of a journal for one reason.
 fn refused_requests() -> Journals {
     let requests = |list: &[Request]| unchanged(&all(1, 100, list));
-    let not_zero = [3, 6, 7, 16, 17, 18, 19, 20, 21, 22, 23];
+    let spoiled = |places: &[usize]| -> Vec<Request> {
+        places.iter().map(|&at| with(read(1, 3, 51), at, 1)).collect()
+    };
     vec![
         // Kinds 0, 3, 4 and 255.
         ("no-07", requests(&[0, 3, 4, 255].map(|kind| request(kind, 1, 1, 3, 51, 0)))),
@@ -140,8 +142,9 @@ fn refused_requests() -> Journals {
             "no-10",
             requests(&[write(1, 0, 51, 9), write(1, 256, 51, 9), read(1, 256, 51), read(1, 0, 52)]),
         ),
-        // Byte 3, bytes 6–7 and 20–23, and the value of a read.
-        ("no-11", requests(&not_zero.map(|at| with(read(1, 3, 51), at, 1)))),
+        // Each byte outside the value that must be zero, then each byte of a read's value.
+        ("no-21", requests(&spoiled(&[3, 6, 7, 20, 21, 22, 23]))),
+        ("no-22", requests(&spoiled(&[16, 17, 18, 19]))),
     ]
 }
 
@@ -181,11 +184,13 @@ fn queues() -> Journals {
     let at = |time, stamp| delivery_entry(1, time, &read(1, 3, stamp));
     let mut full = all(1, 100, &[read(1, 3, 51); 17]);
     full.extend([step_entry(1, 106), at(107, 52)]);
-    // Without room, a request that is wrong gets 11 whatever its time; one that is right gets 12, 13
-    // or 14 by its time.
+    // Without room, a request that is wrong gets 21 or 22 whatever its time; one that is right gets
+    // 12, 13 or 14 by its time.
     let mut ordered = all(1, 100, &[read(1, 3, 51); 16]);
-    let wrong = with(read(1, 3, 51), 23, 1);
-    ordered.extend([LAST_TIME + 1, 99, 100].map(|time| delivery_entry(1, time, &wrong)));
+    for place in [23, 19] {
+        let wrong = with(read(1, 3, 51), place, 1);
+        ordered.extend([LAST_TIME + 1, 99, 100].map(|time| delivery_entry(1, time, &wrong)));
+    }
     ordered.extend([LAST_TIME + 1, 99, 100].map(|time| at(time, 51)));
     vec![
         // "Also run": the 16th delivery is accepted, the 17th not; a turn makes room again.
@@ -251,7 +256,7 @@ fn refused_records() -> Journals {
         // Bytes 2–7 and 16–39 of a turn.
         ("no-20-turn", unchanged(&unused.map(|at| with(turn, at, 1)).collect::<Vec<_>>())),
         // Everything is wrong; then one thing after the other is put right, in the order of the
-        // questions: 19, 5, 20, 7, 8, 9, 10, 11, 12, 13.
+        // questions: 19, 5, 20, 7, 8, 9, 10, 21, 22, 12, 13.
         ("questions-in-order", unchanged(&put_right())),
     ]
 }

@@ -19,14 +19,14 @@ pub enum Call {
 }
 
 /// For each call its name and the answers that must occur, 0 for work done.
-/// They are all that document 01 allows for well-formed replicas.
+/// They are all that documents 01 and 02 allow for well-formed replicas.
 const CALLS: [(Call, &str, &[u8]); 11] = [
-    (Call::ReadRequest, "read request", &[0, 1, 2, 6, 7, 8, 9, 10, 11]),
-    (Call::ReadMessage, "read message", &[0, 1, 2, 5, 6, 7, 8, 9, 10, 11]),
-    (Call::WriteRequest, "write request", &[0, 1, 2, 7, 8, 9, 10, 11, 15]),
-    (Call::WriteMessage, "write message", &[0, 1, 2, 5, 7, 8, 9, 10, 11, 15]),
+    (Call::ReadRequest, "read request", &[0, 1, 2, 6, 7, 8, 9, 10, 21, 22]),
+    (Call::ReadMessage, "read message", &[0, 1, 2, 5, 6, 7, 8, 9, 10, 21, 22]),
+    (Call::WriteRequest, "write request", &[0, 1, 2, 7, 8, 9, 10, 15, 22]),
+    (Call::WriteMessage, "write message", &[0, 1, 2, 5, 7, 8, 9, 10, 15, 22]),
     (Call::Make, "make", &[0, 1, 2, 3, 4, 5]),
-    (Call::Deliver, "deliver", &[0, 6, 7, 8, 9, 10, 11, 12, 13, 14]),
+    (Call::Deliver, "deliver", &[0, 6, 7, 8, 9, 10, 12, 13, 14, 21, 22]),
     (Call::Step, "step", &[0, 12, 13, 15]),
     (Call::Vote, "vote", &[0, 1, 2, 16, 17]),
     (Call::CountHalts, "count halts", &[0, 1, 2, 16]),
@@ -35,10 +35,10 @@ const CALLS: [(Call, &str, &[u8]); 11] = [
 ];
 
 /// What records of a journal are refused with.
-const JOURNAL_ANSWERS: [u8; 16] = [1, 2, 3, 4, 5, 7, 8, 9, 10, 11, 12, 13, 14, 18, 19, 20];
+const JOURNAL_ANSWERS: [u8; 17] = [1, 2, 3, 4, 5, 7, 8, 9, 10, 12, 13, 14, 18, 19, 20, 21, 22];
 
-/// Refusal numbers go up to 20.
-const ANSWERS: usize = 21;
+/// Refusal numbers go up to 22.
+const ANSWERS: usize = 23;
 
 /// What else is counted.
 #[derive(Clone, Copy, Debug, PartialEq, Eq)]

@@ -11,12 +11,12 @@ use crate::model::FAILED;
 /// The refusal numbers that a delivery of the owner can get, and one of a guest.
 /// 8 cannot be the owner's, whose group there is; 13 is nobody's, for local time
 /// never goes back.
-const OWNERS: [u8; 7] = [6, 7, 9, 10, 11, 12, 14];
-const GUESTS: [u8; 8] = [6, 7, 8, 9, 10, 11, 12, 14];
+const OWNERS: [u8; 8] = [6, 7, 9, 10, 12, 14, 21, 22];
+const GUESTS: [u8; 9] = [6, 7, 8, 9, 10, 12, 14, 21, 22];
 
 /// How often each answer was given to a delivery, 0 for an accepted one.
 #[derive(Clone, Debug, Default)]
-pub struct Answers([u64; 21]);
+pub struct Answers([u64; 23]);
 
 impl Answers {
     pub fn note(&mut self, answer: u8) {

@@ -341,27 +341,32 @@ fn questions_of_making() {
     assert_eq!(refusal(3, 4, 4, 1_000_000, 7), 0);
 }
 
-/// Mends the first spoiled question of a request, again and again.
+/// Document 02, A5: the last bytes to be mended, each with the number until then.
+const SPARES_THEN_VALUE: [(usize, u8); 8] =
+    [(20, 21), (21, 21), (22, 21), (23, 21), (16, 22), (17, 22), (18, 22), (19, 22)];
+
+/// Mends the first spoiled question of a read, again and again.
 #[test]
 fn questions_of_requests_in_order() {
     let mut bytes = [9; 25];
     assert_eq!(number_of(&read_request(4, 0, &bytes)), 1);
     assert_eq!(number_of(&read_request(1, 0, &bytes)), 2);
     assert_eq!(number_of(&read_request(1, 2, &bytes)), 6);
-    let mends: [(usize, u8, u8); 5] = [(0, 2, 7), (1, 2, 8), (2, 2, 9), (4, 0, 10), (3, 0, 11)];
+    let mends: [(usize, u8, u8); 7] =
+        [(0, 1, 7), (1, 2, 8), (2, 2, 9), (4, 0, 10), (3, 0, 21), (6, 0, 21), (7, 0, 21)];
     for (place, mend, refusal) in mends {
         assert_eq!(number_of(&read_request(1, 2, &bytes[..24])), refusal);
         bytes[place] = mend;
     }
-    assert_eq!(number_of(&read_request(1, 2, &bytes[..24])), 11);
-    bytes[6..8].fill(0);
-    assert_eq!(number_of(&read_request(1, 2, &bytes[..24])), 11);
-    bytes[20..24].fill(0);
+    for (place, refusal) in SPARES_THEN_VALUE {
+        assert_eq!(number_of(&read_request(1, 2, &bytes[..24])), refusal);
+        bytes[place] = 0;
+    }
     let request = read_request(1, 2, &bytes[..24]).expect("all mended");
     assert_eq!(request.encode(), bytes[..24]);
 }
 
-/// The same for a message.
+/// The same for a halt.
 #[test]
 fn questions_of_messages_in_order() {
     let mut bytes = [9; 24];
@@ -372,15 +377,15 @@ fn questions_of_messages_in_order() {
         (3, 3, 5),
         (4, 0, 10),
         (5, 0, 10),
-        (6, 0, 11),
-        (7, 0, 11),
+        (6, 0, 21),
+        (7, 0, 21),
     ];
     for (place, mend, refusal) in mends {
         assert_eq!(number_of(&read_message(1, 2, &bytes)), refusal);
         bytes[place] = mend;
     }
-    for place in 16..24 {
-        assert_eq!(number_of(&read_message(1, 2, &bytes)), 11);
+    for (place, refusal) in SPARES_THEN_VALUE {
+        assert_eq!(number_of(&read_message(1, 2, &bytes)), refusal);
         bytes[place] = 0;
     }
     let message = read_message(1, 2, &bytes).expect("all mended");
@@ -393,12 +398,14 @@ fn questions_of_writing() {
     assert_eq!(number_of(&write_request(0, 1, &reading, &mut [0; 24])), 0);
     assert_eq!(number_of(&write_request(0, 1, &reading, &mut [0; 23])), 15);
     let valued = RequestFields { value: 1, ..reading };
-    assert_eq!(number_of(&write_request(0, 1, &valued, &mut [0; 23])), 11);
+    assert_eq!(number_of(&write_request(0, 1, &valued, &mut [0; 23])), 22);
     let halt = MessageFields { kind: 4, group: 1, process: 1, ..MessageFields::default() };
     assert_eq!(number_of(&write_message(0, 1, &halt, &mut [0; 23])), 5);
     let named = MessageFields { replica: 1, ..halt };
     assert_eq!(number_of(&write_message(0, 1, &named, &mut [0; 23])), 15);
-    let odd = MessageFields { variable: 1, value: 1, ..named };
+    let valued = MessageFields { value: 1, ..named };
+    assert_eq!(number_of(&write_message(0, 1, &valued, &mut [0; 23])), 22);
+    let odd = MessageFields { variable: 1, ..valued };
     assert_eq!(number_of(&write_message(0, 1, &odd, &mut [0; 23])), 10);
 }
 

@@ -52,7 +52,8 @@ pub struct Timestamp(pub u64);
 #[derive(Clone, Copy, Debug, Default, PartialEq, Eq, PartialOrd, Ord)]
 pub struct LocalTime(pub u64);
 
-/// The question that was answered "no", with document 01's number.
+/// The question that was answered "no", with its number: document 01's, and from 21 document 02's,
+/// which replaces 11 by 21 and 22.
 #[derive(Clone, Copy, Debug, PartialEq, Eq)]
 #[repr(u8)]
 pub enum Refusal {
@@ -66,7 +67,6 @@ pub enum Refusal {
     Group = 8,
     Process = 9,
     Variable = 10,
-    Zero = 11,
     TimeTooLarge = 12,
     TimeGoesBack = 13,
     PendingFull = 14,
@@ -76,10 +76,11 @@ pub enum Refusal {
     PartialRecord = 18,
     RecordOrder = 19,
     JournalZero = 20,
+    SpareByte = 21,
+    Value = 22,
 }
 
 impl Refusal {
-    /// Document 01's number.
     pub fn number(self) -> u8 {
         self as u8
     }

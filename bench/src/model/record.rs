@@ -172,19 +172,22 @@ impl MessageFields {
 }
 
 impl Settings {
-    /// Questions 7 to 11 of a request's fields.
+    /// The questions of a request's fields alone: a writer's spare bytes are zero.
     pub fn check_request(self, fields: &RequestFields) -> Result<Request, Refusal> {
+        self.request_of(fields, true)
+    }
+
+    /// Questions 7, 8, 9, 10, 21 and 22 of a request.
+    fn request_of(self, fields: &RequestFields, spares_zero: bool) -> Result<Request, Refusal> {
         ask(matches!(fields.kind, READ | WRITE), Refusal::Kind)?;
         ask(self.has_group(fields.group), Refusal::Group)?;
         ask(self.has_process(fields.process), Refusal::Process)?;
         let variable = u8::try_from(fields.variable).map_err(|_| Refusal::Variable)?;
-        let operation = if fields.kind == READ {
-            ask(fields.value == 0, Refusal::Zero)?;
-            Operation::Read
-        } else {
-            ask(variable != 0, Refusal::Variable)?;
-            Operation::Write(fields.value)
-        };
+        let write = fields.kind == WRITE;
+        ask(!write || variable != 0, Refusal::Variable)?;
+        ask(spares_zero, Refusal::SpareByte)?;
+        ask(write || fields.value == 0, Refusal::Value)?;
+        let operation = if write { Operation::Write(fields.value) } else { Operation::Read };
         Ok(Request {
             group: fields.group,
             process: fields.process,
@@ -194,20 +197,24 @@ impl Settings {
         })
     }
 
-    /// Questions 7, 8, 9, 5, 10 and 11 of a message's fields.
+    /// The questions of a message's fields alone: a writer's spare bytes are zero.
     pub fn check_message(self, fields: &MessageFields) -> Result<Message, Refusal> {
+        self.message_of(fields, true)
+    }
+
+    /// Questions 7, 8, 9, 5, 10, 21 and 22 of a message.
+    fn message_of(self, fields: &MessageFields, spares_zero: bool) -> Result<Message, Refusal> {
         ask(matches!(fields.kind, REPLY | HALT), Refusal::Kind)?;
         ask(self.has_group(fields.group), Refusal::Group)?;
         ask(self.has_process(fields.process), Refusal::Process)?;
         ask(self.has_replica(fields.replica), Refusal::Replica)?;
         let variable = u8::try_from(fields.variable).map_err(|_| Refusal::Variable)?;
-        let content = if fields.kind == REPLY {
-            Content::Reply { variable, value: fields.value }
-        } else {
-            ask(variable == 0, Refusal::Variable)?;
-            ask(fields.value == 0, Refusal::Zero)?;
-            Content::Halt
-        };
+        let reply = fields.kind == REPLY;
+        ask(reply || variable == 0, Refusal::Variable)?;
+        ask(spares_zero, Refusal::SpareByte)?;
+        ask(reply || fields.value == 0, Refusal::Value)?;
+        let value = fields.value;
+        let content = if reply { Content::Reply { variable, value } } else { Content::Halt };
         Ok(Message {
             group: fields.group,
             process: fields.process,
@@ -221,17 +228,14 @@ impl Settings {
     pub fn read_request(self, bytes: &[u8]) -> Result<Request, Refusal> {
         let record = whole(bytes)?;
         let fields = MessageFields::decode(record);
-        let request = self.check_request(&fields.without_replica())?;
-        ask(fields.replica == 0 && padding_is_zero(record), Refusal::Zero)?;
-        Ok(request)
+        let spares_zero = fields.replica == 0 && padding_is_zero(record);
+        self.request_of(&fields.without_replica(), spares_zero)
     }
 
     /// Question 6 and the following ones of a message.
     pub fn read_message(self, bytes: &[u8]) -> Result<Message, Refusal> {
         let record = whole(bytes)?;
-        let message = self.check_message(&MessageFields::decode(record))?;
-        ask(padding_is_zero(record), Refusal::Zero)?;
-        Ok(message)
+        self.message_of(&MessageFields::decode(record), padding_is_zero(record))
     }
 }
 

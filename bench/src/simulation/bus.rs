@@ -21,7 +21,8 @@ pub enum Happening {
 /// Why a call must be refused.
 #[derive(Clone, Copy)]
 pub enum Trouble {
-    DamagedRequest,
+    SpareByte,
+    ReadWithValue,
     ShortRequest,
     TimeTooLarge,
     TimeGoesBack,
@@ -111,7 +112,8 @@ fn add_steps(plan: &Plan, end: u64, schedule: &mut Schedule, random: &mut Random
 fn add_troubles(end: u64, schedule: &mut Schedule, random: &mut Random) {
     for _ in 0..random.index(6) {
         let trouble = random.pick(&[
-            Trouble::DamagedRequest,
+            Trouble::SpareByte,
+            Trouble::ReadWithValue,
             Trouble::ShortRequest,
             Trouble::TimeTooLarge,
             Trouble::TimeGoesBack,

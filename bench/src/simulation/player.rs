@@ -143,9 +143,13 @@ impl Player<'_> {
         request[..3].copy_from_slice(&[1, 1, 1]);
         let last = self.run.replica.last.0;
         let expected = match trouble {
-            Trouble::DamagedRequest => {
-                request[6] = random.byte() | 1;
-                (self.deliver(&request, at), 11)
+            Trouble::SpareByte => {
+                request[random.pick(&[3, 6, 7, 20, 21, 22, 23])] = random.byte() | 1;
+                (self.deliver(&request, at), 21)
+            }
+            Trouble::ReadWithValue => {
+                request[16 + random.index(4)] = random.byte() | 1;
+                (self.deliver(&request, at), 22)
             }
             Trouble::ShortRequest => (self.deliver(&request[..random.index(24)], at), 6),
             Trouble::TimeTooLarge => (self.deliver(&request, TIME_LIMIT.0 + 1), 12),
