@@ -121,11 +121,19 @@ fn some_bytes(record: [u8; RECORD_SIZE], length: usize, random: &mut Random) -> 
     bytes
 }
 
+/// A record that gets 21 and would get 22 next: its kind has no value.
+fn note_both<T>(answer: &Result<T, Refusal>, kind: u8, bytes: &[u8], tally: &mut Tally) {
+    if matches!(answer, Err(Refusal::SpareByte)) && bytes[0] == kind && bytes[16..20] != [0; 4] {
+        tally.event(Event::SpareAndValue);
+    }
+}
+
 fn read_request(k: u8, n: u8, bytes: &[u8], tally: &mut Tally) -> Outcome {
     let input = || format!("read request, k {k}, n {n}, bytes {bytes:?}");
     let expected = record::read_request(k, n, bytes).map(|request| request.fields());
     let found = ffi::read_request(k, n, bytes);
     tally.answer(Call::ReadRequest, number_of(&expected));
+    note_both(&expected, record::READ, bytes, tally);
     same_reading(expected, (found.refusal, found.request.into()), input)?;
     let write = |place: &mut [u8]| ffi::write_request(k, n, found.request, place);
     written_again(found.refusal, bytes, write, input)
@@ -136,6 +144,7 @@ fn read_message(k: u8, n: u8, bytes: &[u8], tally: &mut Tally) -> Outcome {
     let expected = record::read_message(k, n, bytes).map(|message| message.fields());
     let found = ffi::read_message(k, n, bytes);
     tally.answer(Call::ReadMessage, number_of(&expected));
+    note_both(&expected, record::HALT, bytes, tally);
     same_reading(expected, (found.refusal, found.message.into()), input)?;
     let write = |place: &mut [u8]| ffi::write_message(k, n, found.message, place);
     written_again(found.refusal, bytes, write, input)

@@ -44,6 +44,7 @@ const ANSWERS: usize = 23;
 #[derive(Clone, Copy, Debug, PartialEq, Eq)]
 pub enum Event {
     RecordRun,
+    SpareAndValue,
     ReplicaRun,
     MalformedRun,
     VoteRun,
@@ -119,8 +120,9 @@ pub enum Event {
 }
 
 /// For each event its name; each must occur.
-const EVENTS: [(Event, &str); 73] = [
+const EVENTS: [(Event, &str); 74] = [
     (Event::RecordRun, "runs with records"),
+    (Event::SpareAndValue, "reads and halts with a spare byte and a value"),
     (Event::ReplicaRun, "runs with replicas"),
     (Event::MalformedRun, "runs with malformed arguments"),
     (Event::VoteRun, "runs with votes"),

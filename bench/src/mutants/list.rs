@@ -50,7 +50,10 @@ pub enum Mutant {
     ReplicaByteIgnored,
     LongRecordRead,
     ProcessBeforeGroup,
-    PaddingIgnored,
+    LastByteIgnored,
+    ValueOfHaltIgnored,
+    ReplicaByteGets22,
+    ValueBeforeSpares,
     WriteBeyond24,
     RefusedWriteSpoils,
     ReplicaCountedTwice,
@@ -105,7 +108,7 @@ const PAIRS: Shown = Shown { in_simulation: false, in_isolation: true };
 const BOTH: Shown = Shown { in_simulation: true, in_isolation: true };
 
 /// For each mutant its bug, and where it shows.
-pub const MUTANTS: [(Mutant, &str, Shown); 85] = [
+pub const MUTANTS: [(Mutant, &str, Shown); 88] = [
     (Mutant::StableAtEquality, "a batch is stable exactly delta after its first arrival", UNITS),
     (Mutant::LatestArrival, "stability counts from the latest arrival", NEITHER),
     (Mutant::UnstableSkipped, "an unstable batch is skipped to serve a later timestamp", UNITS),
@@ -151,7 +154,10 @@ pub const MUTANTS: [(Mutant, &str, Shown); 85] = [
     (Mutant::ReplicaByteIgnored, "byte 3 of a request is not looked at", NEITHER),
     (Mutant::LongRecordRead, "a record of 25 bytes is read", NEITHER),
     (Mutant::ProcessBeforeGroup, "the process is asked for before the group", NEITHER),
-    (Mutant::PaddingIgnored, "the last four bytes of a message are not looked at", NEITHER),
+    (Mutant::LastByteIgnored, "byte 23 of a message is not looked at", NEITHER),
+    (Mutant::ValueOfHaltIgnored, "the value of a halt is not looked at", NEITHER),
+    (Mutant::ReplicaByteGets22, "byte 3 of a request is asked for with the value, 22", NEITHER),
+    (Mutant::ValueBeforeSpares, "the value is asked for before the spare bytes", NEITHER),
     (Mutant::WriteBeyond24, "writing a request clears bytes behind the 24", NEITHER),
     (Mutant::RefusedWriteSpoils, "a refused write changes the destination", NEITHER),
     (Mutant::ReplicaCountedTwice, "the vote counts one replica twice", UNITS),

@@ -18,16 +18,36 @@ pub fn read_request(k: u8, n: u8, bytes: &[u8]) -> Result<Request, Refusal> {
         {
             Err(Refusal::Process)
         }
+        Err(Refusal::SpareByte)
+            if is(Mutant::ReplicaByteGets22)
+                && record[6..8].iter().chain(&record[20..]).all(|&byte| byte == 0) =>
+        {
+            Err(Refusal::Value)
+        }
+        result => value_first(result, record::READ, &record),
+    }
+}
+
+/// A record of a kind without a value gets 22 before 21.
+fn value_first<T>(result: Result<T, Refusal>, kind: u8, record: &[u8]) -> Result<T, Refusal> {
+    let both_wrong = |record: &[u8]| record[0] == kind && record[16..20] != [0; 4];
+    match result {
+        Err(Refusal::SpareByte) if is(Mutant::ValueBeforeSpares) && both_wrong(record) => {
+            Err(Refusal::Value)
+        }
         result => result,
     }
 }
 
 pub fn read_message(k: u8, n: u8, bytes: &[u8]) -> Result<Message, Refusal> {
     let mut record = bytes.to_vec();
-    if is(Mutant::PaddingIgnored) && record.len() == RECORD_SIZE {
-        record[20..].fill(0);
+    if is(Mutant::LastByteIgnored) && record.len() == RECORD_SIZE {
+        record[23] = 0;
     }
-    record::read_message(k, n, &record)
+    if is(Mutant::ValueOfHaltIgnored) && record.len() == RECORD_SIZE && record[0] == record::HALT {
+        record[16..20].fill(0);
+    }
+    value_first(record::read_message(k, n, &record), record::HALT, &record)
 }
 
 pub fn write_request(
