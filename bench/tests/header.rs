@@ -1,11 +1,12 @@
-//! failstop.h is C, its structs are as large as those of `ffi`, and the replica's
-//! fields stand at the same places.
+//! failstop.h is C, its structs are as large as those of `ffi`, the replica's fields
+//! stand at the same places, and its refusal numbers are the model's.
 
 use std::io::Write;
 use std::mem::{offset_of, size_of};
 use std::process::{Command, Stdio};
 
 use bench::ffi;
+use bench::model::Refusal;
 
 #[test]
 fn header_is_c_with_the_same_structs() {
@@ -50,6 +51,38 @@ fn the_replicas_fields_stand_at_the_same_places() {
     ];
     let asserts = places.map(|(name, place)| {
         format!("_Static_assert(offsetof(failstop_replica, {name}) == {place}, \"{name}\");\n")
+    });
+    compile(&format!("#include \"failstop.h\"\n{}", asserts.concat()));
+}
+
+#[test]
+fn the_refusals_have_the_models_numbers() {
+    let numbers = [
+        ("K", Refusal::K),
+        ("GROUPS", Refusal::Groups),
+        ("OWNER", Refusal::Owner),
+        ("DELTA", Refusal::Delta),
+        ("REPLICA", Refusal::Replica),
+        ("LENGTH", Refusal::Length),
+        ("KIND", Refusal::Kind),
+        ("GROUP", Refusal::Group),
+        ("PROCESS", Refusal::Process),
+        ("VARIABLE", Refusal::Variable),
+        ("TIME_TOO_LARGE", Refusal::TimeTooLarge),
+        ("TIME_GOES_BACK", Refusal::TimeGoesBack),
+        ("PENDING_FULL", Refusal::PendingFull),
+        ("TOO_LITTLE_ROOM", Refusal::TooLittleRoom),
+        ("LIST_TOO_LONG", Refusal::ListTooLong),
+        ("NO_MAJORITY", Refusal::NoMajority),
+        ("PARTIAL_RECORD", Refusal::PartialRecord),
+        ("RECORD_ORDER", Refusal::RecordOrder),
+        ("JOURNAL_ZERO", Refusal::JournalZero),
+        ("SPARE_BYTE", Refusal::SpareByte),
+        ("VALUE", Refusal::Value),
+    ];
+    let asserts = numbers.map(|(name, refusal)| {
+        let number = refusal.number();
+        format!("_Static_assert(FAILSTOP_{name} == {number}, \"{name}\");\n")
     });
     compile(&format!("#include \"failstop.h\"\n{}", asserts.concat()));
 }

@@ -1,13 +1,41 @@
 /* The fail-stop store for C: the functions of libexport.a, which `rt staticlib export` writes.
  *
  * Each takes any values, reads and writes only the bytes that it is lent, and ends. A `refusal`
- * is 0 where the call did its work, and otherwise document 01's number; then nothing has changed. */
+ * is 0 where the call did its work, and otherwise one of the numbers below; then nothing has changed. */
 #ifndef FAILSTOP_H
 #define FAILSTOP_H
 
 #include <stdbool.h>
 #include <stddef.h>
 #include <stdint.h>
+
+/* What a refusal says: the first question that was answered no. The numbers are document 01's, but for 11, which no call
+   gives: document 02 has 21 and 22 in its place. Reading and writing ask 7, 8, 9, 5 of a message, 10, 21, 22 in this
+   order; what is written has zeros for spare bytes, so that 21 is of reading alone. 18 to 20 are the journal's own. */
+enum {
+    FAILSTOP_DONE = 0,
+    FAILSTOP_K = 1,               /* k is past 3 */
+    FAILSTOP_GROUPS = 2,          /* N is not within 1 to 4 */
+    FAILSTOP_OWNER = 3,           /* the owner is not within 1 to N */
+    FAILSTOP_DELTA = 4,           /* delta is past 1,000,000 */
+    FAILSTOP_REPLICA = 5,         /* the replica is not within 1 to 2k + 1; in a setup, not 0 */
+    FAILSTOP_LENGTH = 6,          /* the record has more or fewer than 24 bytes */
+    FAILSTOP_KIND = 7,            /* the kind is not 1 or 2 in a request, 3 or 4 in a message */
+    FAILSTOP_GROUP = 8,           /* the group is not within 1 to N */
+    FAILSTOP_PROCESS = 9,         /* the process is not within 1 to k + 1 */
+    FAILSTOP_VARIABLE = 10,       /* the variable is past 255, 0 in a write, or other than 0 in a halt */
+    FAILSTOP_TIME_TOO_LARGE = 12, /* the local time is past 2^62 */
+    FAILSTOP_TIME_GOES_BACK = 13, /* the local time is below the last accepted one */
+    FAILSTOP_PENDING_FULL = 14,   /* sixteen requests of the sender's group are pending */
+    FAILSTOP_TOO_LITTLE_ROOM = 15, /* a destination of fewer than 24 bytes, an output of fewer than 1,608 */
+    FAILSTOP_LIST_TOO_LONG = 16,  /* more than 64 messages */
+    FAILSTOP_NO_MAJORITY = 17,    /* no value comes from k + 1 replicas */
+    FAILSTOP_PARTIAL_RECORD = 18, /* a journal ends within a record */
+    FAILSTOP_RECORD_ORDER = 19,   /* not a setup first in a journal, or neither delivery nor turn later */
+    FAILSTOP_JOURNAL_ZERO = 20,   /* a byte of a journal's record that must be zero is not */
+    FAILSTOP_SPARE_BYTE = 21,     /* a byte of a request or message, outside the value, that must be zero is not */
+    FAILSTOP_VALUE = 22           /* a read or a halt carries a value */
+};
 
 /* A process's clock, and a replica's: unrelated, so a type for each. */
 typedef struct { uint64_t ticks; } failstop_timestamp;
