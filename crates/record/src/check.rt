@@ -81,14 +81,20 @@ fn check_content(family: Family, row: Row, f: Fields) -> Outcome
     let variable = allows_variable(row, f);
     let spares = spares_zero(family, row, f);
     let value = allows_value(row, f);
+    if !variable {
+        return Outcome::Refused(10);
+    }
+    if !spares {
+        return Outcome::Refused(21);
+    }
+    if !value {
+        return Outcome::Refused(22);
+    }
     Outcome::Done
-        .ask(variable, 10)
-        .ask(spares, 21)
-        .ask(value, 22)
 }
 
-// Questions 7, 8, 9, 5 of a message's sender, 10, 21 and 22. A refusal ends them: the compiler makes
-// a branch of it, which costs less than to ask the others too.
+// Questions 7, 8, 9, 5 of a message's sender, 10, 21 and 22. A refusal ends them, here and of what the
+// record carries: the compiler makes a branch of it, which costs less than to ask the others too.
 pub(crate) fn check_fields(family: Family, k: u8, n: u8, f: Fields) -> Outcome
     ensures { λ o. ⌜ outcome o ≡ ask (fieldQuestions family k n f) (given worked) ⌝ }
 {
