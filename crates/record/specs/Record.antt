@@ -33,7 +33,7 @@ senderQuestions Neither k f = []
 abbrev pub allowsVariable : Fields → Bool
 allowsVariable f = within (rowOf (f .kind) .least) (rowOf (f .kind) .greatest) (f .variable)
 
--- every byte outside the value that must be zero is: byte 3, bytes 6–7 and bytes 20–23, where nothing stands in them
+-- the bytes outside the value that must be zero are: byte 3, bytes 6–7 and bytes 20–23, where nothing stands in them
 abbrev pub sparesZero : Family → Fields → Bool
 sparesZero family f =
     (hasSender family || eqb (f .replica) 0)

@@ -1,12 +1,12 @@
 -- The questions of a call have the numbers that document 01 lists for it, and whatever it is given, it is refused with one of those.
 use Prim.Native.Nat.{ℕ, _+_}
-use mathlib.Core.Path.{_≡_, refl, sym, _∙_}
+use mathlib.Core.Path.{_≡_, refl}
 use mathlib.Core.Bool.{Bool, _&&_}
 use mathlib.Core.List.{List, [], _∷_, _++_, List·Memᴰ·head}
 use lib.Dec.{leb}
 use lib.ListN.{length, take, drop}
 use Rattle.question.specs.Question.{numbersOf, Listed, unitQuestions}
-use Rattle.question.proofs.Questions.{ask-without, given-listed, ask-listed, bind-listed, cond-listed}
+use Rattle.question.proofs.Questions.{given-listed, ask-listed, yes-listed, bind-listed, cond-listed}
 use Rattle.record.specs.Record.{fieldQuestions, readQuestions, writeQuestions, readFields, writeFields, requestFields, messageFields, readRequest, readMessage, writeRequest, writeMessage}
 use Rattle.record.proofs.Facts.{request-spares, message-spares}
 use Rattle.layout.specs.declared.clock.LocalTime.{LocalTime}
@@ -46,20 +46,18 @@ module _ (k n : ℕ) (bytes : List ℕ) where
   unfolding readFields unitQuestions fieldQuestions
   read-message-numbers = bind-listed (readFields Messages k n bytes) _ _ [] (ask-listed _ _ [] (given-listed [] _)) (λ f. given-listed [] _)
 
-  -- not with 21 either: the question is answered yes, so the refusal is that of one before or after it
+  -- not with 21 either: that question is answered yes
   pub write-request-numbers : (r : Request) → Listed writeRequestNumbers (writeRequest k n r bytes)
   unfolding writeFields unitQuestions fieldQuestions
-  write-request-numbers r number e =
+  write-request-numbers r =
       let asked = writeQuestions Requests k n (requestFields r) (length bytes) in
-      ask-listed (take 6 asked ++ drop 7 asked) _ [] (given-listed [] _) number
-      (sym (ask-without (take 6 asked) (drop 7 asked) 21 _ (request-spares r)) ∙ e)
+      yes-listed (take 6 asked) (drop 7 asked) 21 _ [] (request-spares r) (given-listed [] _)
 
   pub write-message-numbers : (m : Message) → Listed writeMessageNumbers (writeMessage k n m bytes)
   unfolding writeFields unitQuestions fieldQuestions
-  write-message-numbers m number e =
+  write-message-numbers m =
       let asked = writeQuestions Messages k n (messageFields m) (length bytes) in
-      ask-listed (take 7 asked ++ drop 8 asked) _ [] (given-listed [] _) number
-      (sym (ask-without (take 7 asked) (drop 8 asked) 21 _ (message-spares m)) ∙ e)
+      yes-listed (take 7 asked) (drop 8 asked) 21 _ [] (message-spares m) (given-listed [] _)
 
 -- ── the replica ──
 
