@@ -108,7 +108,7 @@ impl Fields {
         ensures { destination.new ≡ bytes_of self ++ drop record_size destination.old }
     {
         let b = self.bytes();
-        bytes::copy(&b, destination);
+        destination[..RECORD].copy_from_slice(&b);
     }
 
     // Writes the 24 bytes at the start of the destination, if it has room for them.
