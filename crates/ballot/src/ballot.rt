@@ -13,7 +13,7 @@ use rules::Query;
 // two loads that do not overlap; those of 7 overlap, and wait for each other.
 const VALUES: usize = LAST_REPLICA + 1;
 
-#[derive(Drop)]
+#[derive(Clone, Copy)]
 pub struct Ballot {
     // The value of each replica's first counting reply, at the index that is its number.
     pub(crate) values: [u32; VALUES],

@@ -12,13 +12,13 @@ use crate::sets::{has, replicas_of, with};
 use question::{Outcome, check_unit};
 use rules::{Election, HaltCount};
 
-#[derive(Drop)]
+#[derive(Clone, Copy)]
 pub enum VoteAnswer {
     Elected(Election),
     Refused(u8),
 }
 
-#[derive(Drop)]
+#[derive(Clone, Copy)]
 pub enum HaltAnswer {
     Counted(HaltCount),
     Refused(u8),

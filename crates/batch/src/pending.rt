@@ -10,7 +10,7 @@ use record::{LocalTime, Timestamp};
 use rules::Pending;
 
 // The head of a queue: its least timestamp, and the first arrival with that timestamp.
-#[derive(Drop)]
+#[derive(Clone, Copy)]
 pub enum Head {
     Nothing,
     At(Timestamp, LocalTime),

@@ -13,7 +13,7 @@ use script::{Name, Scan};
 use votes::Heard;
 
 // What is kept from line to line.
-#[derive(Drop)]
+#[derive(Clone, Copy)]
 pub struct Kept {
     pub replica: Replica,
     pub heard: Heard,

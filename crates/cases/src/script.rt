@@ -2,7 +2,7 @@
 ghost use Rattle.std.specs.Prelude.{◌≤◌, length};
 
 // What a line asks for. A line that starts otherwise is only printed.
-#[derive(Drop)]
+#[derive(Clone, Copy)]
 pub enum Name {
     Comment,
     ReadRequest,
@@ -19,7 +19,7 @@ pub enum Name {
     Halts,
 }
 
-#[derive(Drop)]
+#[derive(Clone, Copy)]
 pub struct Scan {
     pub numbers: [u64; 64],
     pub count: usize,

@@ -6,7 +6,7 @@ use record::{Message, Timestamp};
 use rules::Query;
 use vote::LIST_PLACES;
 
-#[derive(Drop)]
+#[derive(Clone, Copy)]
 pub struct Heard {
     pub list: [Message; LIST_PLACES],
     pub count: usize,

@@ -15,7 +15,7 @@ use record::{LocalTime, Request, RequestRead};
 use rules::{Pending, Settings};
 use state::Replica;
 
-#[derive(Drop)]
+#[derive(Clone, Copy)]
 pub struct Delivered {
     pub outcome: Outcome,
     pub replica: Replica,

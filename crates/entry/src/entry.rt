@@ -14,14 +14,14 @@ const SETUP: u8 = 1;
 
 const DELIVERY: u8 = 2;
 
-#[derive(Drop)]
+#[derive(Clone, Copy)]
 pub enum SetupRead {
     Accepted(Settings),
     Refused(u8),
 }
 
 // The replica and the local time; the request of a delivery is bytes 16 to 39.
-#[derive(Drop)]
+#[derive(Clone, Copy)]
 pub enum EntryRead {
     Delivery(u8, LocalTime),
     Turn(u8, LocalTime),

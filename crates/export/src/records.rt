@@ -8,14 +8,14 @@ use question::Outcome;
 use record::{Message, MessageRead, Request, RequestRead};
 
 #[repr(C)]
-#[derive(Drop)]
+#[derive(Clone, Copy)]
 pub struct RequestResult {
     pub refusal: u8,
     pub request: Request,
 }
 
 #[repr(C)]
-#[derive(Drop)]
+#[derive(Clone, Copy)]
 pub struct MessageResult {
     pub refusal: u8,
     pub message: Message,

@@ -14,14 +14,14 @@ use replica::{Replica, StepAnswer};
 use rules::Settings;
 
 #[repr(C)]
-#[derive(Drop)]
+#[derive(Clone, Copy)]
 pub struct ReplicaResult {
     pub refusal: u8,
     pub replica: Replica,
 }
 
 #[repr(C)]
-#[derive(Drop)]
+#[derive(Clone, Copy)]
 pub struct StepResult {
     pub refusal: u8,
     // How many records stand at the start of the output.

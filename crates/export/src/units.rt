@@ -11,7 +11,7 @@ use playback::Stage;
 use rules::Settings;
 
 #[repr(C)]
-#[derive(Drop)]
+#[derive(Clone, Copy)]
 pub struct Player {
     // 0 before the first record, 1 set up; any other number counts as stopped.
     pub stage: u8,
@@ -21,7 +21,7 @@ pub struct Player {
 }
 
 #[repr(C)]
-#[derive(Drop)]
+#[derive(Clone, Copy)]
 pub struct BlockResult {
     pub player: Player,
     pub taken: usize,

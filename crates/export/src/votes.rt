@@ -11,21 +11,21 @@ use vote::LIST_PLACES;
 
 // The first `count` messages.
 #[repr(C)]
-#[derive(Drop)]
+#[derive(Clone, Copy)]
 pub struct List {
     pub messages: [Message; LIST_PLACES],
     pub count: usize,
 }
 
 #[repr(C)]
-#[derive(Drop)]
+#[derive(Clone, Copy)]
 pub struct VoteResult {
     pub refusal: u8,
     pub election: Election,
 }
 
 #[repr(C)]
-#[derive(Drop)]
+#[derive(Clone, Copy)]
 pub struct HaltResult {
     pub refusal: u8,
     pub count: HaltCount,

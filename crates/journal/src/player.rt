@@ -12,7 +12,7 @@ const BLOCK: usize = 64000;
 const TEXT: usize = 65536;
 
 // How far the records of a read have come; `ok` where all text was written.
-#[derive(Drop)]
+#[derive(Clone, Copy)]
 pub struct Playing {
     pub stage: Stage,
     pub taken: usize,
@@ -64,7 +64,7 @@ fn has_stopped(stage: Stage) -> bool {
 }
 
 // What a read gave: how many bytes, none at the end of the input.
-#[derive(Drop)]
+#[derive(Clone, Copy)]
 pub struct Got {
     pub count: usize,
     pub failed: bool,
@@ -89,7 +89,7 @@ fn read_more(file: i32, block: &mut [u8], held: usize) -> Got
 }
 
 // What is held after the records of a read: the bytes that are no whole record.
-#[derive(Drop)]
+#[derive(Clone, Copy)]
 pub struct Held {
     pub stage: Stage,
     pub count: usize,

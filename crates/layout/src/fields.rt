@@ -7,7 +7,7 @@ use crate::clock::Timestamp;
 use crate::number::{digits2, digits4, digits8, number_at};
 use limits::RECORD;
 
-#[derive(Drop)]
+#[derive(Clone, Copy)]
 pub struct Fields {
     pub kind: u8,
     pub group: u8,

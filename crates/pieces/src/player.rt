@@ -14,7 +14,7 @@ const INPUT: usize = 131072;
 const CALLS: usize = 1000000;
 
 // How far a call came; `ok` where its text was written.
-#[derive(Drop)]
+#[derive(Clone, Copy)]
 pub struct Playing {
     pub stage: Stage,
     pub taken: usize,

@@ -22,7 +22,7 @@ const LINES: usize = MAX_SENT * 132;
 
 // How far a call came: the stage then, how many bytes of the block were taken, and how many of the text
 // are used.
-#[derive(Drop)]
+#[derive(Clone, Copy)]
 pub struct Block {
     pub stage: Stage,
     pub taken: usize,
@@ -30,7 +30,7 @@ pub struct Block {
 }
 
 // The same of the records after the setup; the next one has this place.
-#[derive(Drop)]
+#[derive(Clone, Copy)]
 pub struct Rest {
     pub place: u64,
     pub taken: usize,

@@ -1,7 +1,7 @@
 // How far the playing of a journal has come.
 use rules::Settings;
 
-#[derive(Drop)]
+#[derive(Clone, Copy)]
 pub enum Stage {
     // Nothing was played yet.
     First,

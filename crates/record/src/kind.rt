@@ -11,7 +11,7 @@ pub const REPLY: u8 = 3;
 
 pub const HALT: u8 = 4;
 
-#[derive(Drop)]
+#[derive(Clone, Copy)]
 pub enum Family {
     Requests,
     Messages,
@@ -47,7 +47,7 @@ pub(crate) fn is_of(family: Family, kind: u8) -> bool
 }
 
 // What a record of a kind may carry.
-#[derive(Drop)]
+#[derive(Clone, Copy)]
 pub struct Row {
     // The variables that it admits.
     pub least: u16,

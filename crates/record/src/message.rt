@@ -9,7 +9,7 @@ use layout::{Fields, Timestamp};
 use question::Outcome;
 
 #[repr(C)]
-#[derive(Drop)]
+#[derive(Clone, Copy)]
 pub struct Message {
     pub kind: u8,
     pub group: u8,
@@ -22,7 +22,7 @@ pub struct Message {
     pub value: u32,
 }
 
-#[derive(Drop)]
+#[derive(Clone, Copy)]
 pub enum MessageRead {
     Accepted(Message),
     Refused(u8),

@@ -10,7 +10,7 @@ use layout::{Fields, Timestamp};
 use question::Outcome;
 
 #[repr(C)]
-#[derive(Drop)]
+#[derive(Clone, Copy)]
 pub struct Request {
     pub kind: u8,
     pub group: u8,
@@ -21,7 +21,7 @@ pub struct Request {
     pub value: u32,
 }
 
-#[derive(Drop)]
+#[derive(Clone, Copy)]
 pub enum RequestRead {
     Accepted(Request),
     Refused(u8),

@@ -16,7 +16,7 @@ use replica::Replica;
 use rules::Settings;
 
 // The failed mark, variable 1 and the writes performed.
-#[derive(Drop)]
+#[derive(Clone, Copy)]
 pub struct Figures {
     pub failed: u32,
     pub value: u32,

@@ -13,7 +13,7 @@ use record::{LocalTime, Request};
 use rules::{Pending, Settings};
 
 // A refused making has a blank replica beside its number, all zeros.
-#[derive(Drop)]
+#[derive(Clone, Copy)]
 pub struct Made {
     pub outcome: Outcome,
     pub replica: Replica,

@@ -4,7 +4,7 @@ use record::LocalTime;
 use rules::{Pending, Settings};
 
 #[repr(C)]
-#[derive(Drop)]
+#[derive(Clone, Copy)]
 pub struct Replica {
     pub settings: Settings,
     // Its own number among the replicas.

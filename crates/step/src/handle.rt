@@ -13,14 +13,14 @@ use record::Timestamp;
 use rules::Settings;
 
 // What a step has come to: how many writes are performed, and records written so far.
-#[derive(Drop)]
+#[derive(Clone, Copy)]
 pub struct Tally {
     pub writes: u64,
     pub count: usize,
 }
 
 // What the visit of a group has come to: how many requests are left in its queue, and the tally.
-#[derive(Drop)]
+#[derive(Clone, Copy)]
 pub struct Progress {
     pub left: usize,
     pub writes: u64,

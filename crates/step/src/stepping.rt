@@ -16,14 +16,14 @@ use record::LocalTime;
 use rules::{Pending, Settings};
 use state::Replica;
 
-#[derive(Drop)]
+#[derive(Clone, Copy)]
 pub enum StepAnswer {
     // How many records stand at the start of the output.
     Sent(usize),
     Refused(u8),
 }
 
-#[derive(Drop)]
+#[derive(Clone, Copy)]
 pub struct Stepped {
     pub answer: StepAnswer,
     pub replica: Replica,
@@ -37,7 +37,7 @@ fn check_step(last: LocalTime, at: LocalTime, room: usize) -> Outcome
 }
 
 // What a step gives of a replica that is lent in parts: the answer, and what of it goes by value.
-#[derive(Drop)]
+#[derive(Clone, Copy)]
 pub struct LentStep {
     pub answer: StepAnswer,
     pub writes: u64,

@@ -11,4 +11,4 @@ pub returns-then-bytes-at : goal.returns-then-bytes-at
 returns-then-bytes-at c = let a = c.args in rw (lt-leb (a.at + 8) (length a.bytes.now) (omega arith))
 
 pub returns : goal.returns
-returns c = let a = c.args in rw (le-leb (a.at + 8) (length a.bytes.now) (omega arith)) c.number_at.ensures.0
+returns c = let a = c.args in rw (le-leb (a.at + 8) (length a.bytes.now) (omega arith)) c.number_at.ensures.is

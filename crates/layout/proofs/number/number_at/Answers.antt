@@ -18,16 +18,16 @@ pub loop-i-init : goal.loop-i-init
 unfolding number
 loop-i-init c = (omega arith, (refl, omega arith))
 
-pub TODO_overflow-mul-x : goal.TODO_overflow-mul-x
-TODO_overflow-mul-x c = omega (arith, small c.loop-i.i (omega arith))
+pub overflow_mul-x : goal.overflow_mul-x
+overflow_mul-x c = omega (arith, small c.loop-i.i (omega arith))
 
-pub TODO_overflow-add-x : goal.TODO_overflow-add-x
-TODO_overflow-add-x c =
+pub overflow_add-x : goal.overflow_add-x
+overflow_add-x c =
     omega (
       arith,
       small c.loop-i.i (omega arith),
       c.wide.ensures,
-      c.shared_slice_known-in-loop-i-1.given (c.args.at + c.loop-i.i),
+      c.type_inv.bytes (c.args.at + c.loop-i.i),
     )
 
 pub loop-i-preserved : goal.loop-i-preserved
@@ -40,11 +40,11 @@ loop-i-preserved c =
       (
         rw (add-one i, take-suc part i 0 here, number_snoc, get_or-drop a.at a.bytes.now i 0) (cc),
         rw (add-one i, pow-suc 256 i)
-            (omega (arith, c.wide.ensures, c.shared_slice_known-in-loop-i-1.given (a.at + i))),
+            (omega (arith, c.wide.ensures, c.type_inv.bytes (a.at + i))),
       ),
     )
 
 pub returns : goal.returns
 returns c =
     let e : c.loop-i.i ≡ c.args.width = omega arith in
-    (rw e at c.loop-i.invariant.1.0, rw e at c.loop-i.invariant.1.1)
+    record { is = rw e at c.loop-i.invariant.1.0; below = rw e at c.loop-i.invariant.1.1 }

@@ -14,13 +14,13 @@ unfolding fields_of
 returns c =
     rw (
       fields_in_lem c.args.bytes.now c.if-bytes-ne-RECORD.false,
-      c.number_at-spare20.ensures.0,
-      c.number_at-value.ensures.0,
-      c.number_at.ensures.0,
-      c.number_at-spare6.ensures.0,
-      c.number_at-variable.ensures.0,
-      c.number_at-replica.ensures.0,
-      c.number_at-process.ensures.0,
-      c.number_at-group.ensures.0,
-      c.number_at-kind.ensures.0,
+      c.number_at-spare20.ensures.is,
+      c.number_at-value.ensures.is,
+      c.number_at.ensures.is,
+      c.number_at-spare6.ensures.is,
+      c.number_at-variable.ensures.is,
+      c.number_at-replica.ensures.is,
+      c.number_at-process.ensures.is,
+      c.number_at-group.ensures.is,
+      c.number_at-kind.ensures.is,
     )

@@ -1,0 +1,12 @@
+-- The questions are asked first, and decide both the answer and what is written.
+use Rattle.record.specs.declared.kind.Family.TheVariants.{Messages}
+use Rattle.record.proofs.Reading.{write-room, write_decided}
+use Rattle.record.proofs.message.write_message.Goals as goal
+
+pub put_unless_refused-requires : goal.put_unless_refused-requires
+put_unless_refused-requires c = write-room Messages _ _ _ c.args.destination.now _ c.check_write-o.ensures
+
+pub returns : goal.returns
+returns c =
+    let both = write_decided Messages _ _ _ _ _ c.check_write-o.ensures c.fields-f.ensures c.put_unless_refused.ensures in
+    record { answer = both.0; content = both.1 }
