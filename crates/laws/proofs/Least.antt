@@ -49,7 +49,7 @@ pub lowest_start : (t : Timestamp) (l : List Request) → (lowest t l).0 ≤ t.0
 lowest_start t [] = omega arith
 lowest_start t (r ∷ l) = omega (arith, lowest_start t l)
 
-lowest_below : (t : Timestamp) (l : List Request) {q : Request} → Memᴰ q l → (lowest t l).0 ≤ q.timestamp.0
+lowest_below : (t : Timestamp) {q : Request} (l : List Request) → Memᴰ q l → (lowest t l).0 ≤ q.timestamp.0
 lowest_below t l (Memᴰ.head e) = rw e (omega arith)
 lowest_below t l (Memᴰ.tail {xs = xs} m) = omega (arith, lowest_below t xs m)
 

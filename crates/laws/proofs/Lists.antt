@@ -44,9 +44,9 @@ module _ {A : Type 0} where
       yes' e h (inr n) = let r = h n in (mathlib.Core.List.Memᴰ.tail r.0, r.1)
 
   -- what was there and passes is kept
-  pub in_keep : (p : A → Bool) (l : List A) {x : A} → Memᴰ x l → p x ≡ true → Memᴰ x (keep p l)
+  pub in_keep : (p : A → Bool) {x : A} (l : List A) → Memᴰ x l → p x ≡ true → Memᴰ x (keep p l)
   in_keep p l (mathlib.Core.List.Memᴰ.head {x = y} q) e = rw (← q, e) (mathlib.Core.List.Memᴰ.head refl)
-  in_keep p l {x = z} (mathlib.Core.List.Memᴰ.tail {x = y} {xs = ys} m) e =
+  in_keep p {x = z} l (mathlib.Core.List.Memᴰ.tail {x = y} {xs = ys} m) e =
       elim (p y) as (λ t. Memᴰ z (cond t (y ∷ keep p ys) (keep p ys))) [ true ↦ mathlib.Core.List.Memᴰ.tail (in_keep p ys m e) | false ↦ in_keep p ys m e ]
 
   pub keep_none : (p : A → Bool) (l : List A) → ((x : A) → Memᴰ x l → p x ≡ false) → keep p l ≡ []
@@ -138,7 +138,7 @@ module _ {A B : Type 0} where
       (λ (i : Memᴰ y (flat_map f l)). let r = flat_in f l i in (r.0, mathlib.Core.List.Memᴰ.tail r.1, r.2))
       (mathlib.Core.List.Memᴰ.append_cases (f x) m)
 
-  pub in_flat : (f : A → List B) (l : List A) {x : A} {y : B} → Memᴰ x l → Memᴰ y (f x) → Memᴰ y (flat_map f l)
+  pub in_flat : (f : A → List B) {x : A} (l : List A) {y : B} → Memᴰ x l → Memᴰ y (f x) → Memᴰ y (flat_map f l)
   unfolding flat_map
   in_flat f l {y = y} (mathlib.Core.List.Memᴰ.head {xs = xs} q) i = mathlib.Core.List.Memᴰ.append_left (flat_map f xs) (rw q at i)
   in_flat f l (mathlib.Core.List.Memᴰ.tail {x = x} {xs = xs} m) i = mathlib.Core.List.Memᴰ.append_right (f x) (in_flat f xs m i)
@@ -159,9 +159,11 @@ module _ {A : Type 0} (p : A → Bool) where
   some_in (y ∷ l) e = case (p y) (λ a. (y, mathlib.Core.List.Memᴰ.head refl, a)) (λ a. let r = some_in l (rw a at e) in (r.0, mathlib.Core.List.Memᴰ.tail r.1, r.2))
 
   pub in_some : (l : List A) (x : A) → Memᴰ x l → p x ≡ true → some p l ≡ true
-  in_some l x (mathlib.Core.List.Memᴰ.head q) e = rw (← q, e)
-  in_some l x (mathlib.Core.List.Memᴰ.tail {x = y} {xs = ys} m) e =
-      rw (in_some ys x m e) (elim (p y) as (λ t. t || true ≡ true) [ true ↦ refl | false ↦ refl ])
+  in_some [] x m e = absurd (mathlib.Core.List.Memᴰ.not-nil m)
+  in_some (y ∷ ys) x m e = ⊎_elim
+      (λ (q : x ≡ y). rw (← q, e))
+      (λ (n : Memᴰ x ys). rw (in_some ys x n e) (elim (p y) as (λ t. t || true ≡ true) [ true ↦ refl | false ↦ refl ]))
+      (mathlib.Core.List.Memᴰ.cases_cons m)
 
 -- ── 1 to n ──
 
