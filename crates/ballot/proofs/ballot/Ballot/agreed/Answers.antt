@@ -1,10 +1,15 @@
 -- The loop's invariant: the set is that of the first i replicas.
-use mathlib.Core.Path.{◌∙◌}
+use mathlib.Core.Path.{refl, ◌∙◌}
 use native.Mathlib.Omega.{arith}
 use borrow.Author.Rules.{rules}
+use Rattle.rules.specs.Sets.{set_of}
 use Rattle.laws.proofs.Sets.{set-taken, set_left, set_end}
 use Rattle.ballot.specs.Ballot.{gave}
 use Rattle.ballot.proofs.ballot.Ballot.agreed.Goals as goal
+
+pub loop-i-init : goal.loop-i-init
+unfolding set_of
+loop-i-init c = (omega arith, refl)
 
 pub loop-i-preserved-then-has-self : goal.loop-i-preserved-then-has-self
 loop-i-preserved-then-has-self c =
