@@ -14,6 +14,7 @@ use Rattle.queue.proofs.Rows.{places-length, place_set}
 use Rattle.queue.proofs.Left.{left_row, left_end}
 use Rattle.batch.proofs.Compact.{next_same, rest_same, rest_left, front_next}
 use Rattle.batch.proofs.pending.take_off.Goals as goal
+use Rattle.batch.proofs.pending.take_off.Goals.{then-not-in_batch, else-not-in_batch}
 
 pub loop-i-init : goal.loop-i-init
 loop-i-init c = (omega arith, omega arith, refl, refl, refl)
@@ -35,26 +36,26 @@ loop-i-preserved c =
     let was = c.pending_of.ensures ∙ ap pending_of (next_same old m i inv.3 _) in
     let next = left_row old a.count i _ was (omega (arith, c.pending_count-n.ensures.is)) in
     let front = rw next at inv.4 in
-    let asked = ap not (sym c.in_batch.ensures) in
-    ⊎_elim
-    (λ w.
-    let mine : stays p ≡ true = asked ∙ w.0.taken in
-    let put = place_set m kept _ ∙ ap (set (places_in m) kept) (sym c.pending_of.ensures) in (
-      omega arith,
-      omega (arith, w.2),
-      rw w.1 (simp length-set inv.2),
-      rw w.1 (rest_same old m i inv.3 kept _ inv.1),
-      rw (w.1, w.2, put) (front_next stays (places_in m) kept p (drop (i + 1) (waiting old a.count)) mine (omega (arith, places-length m, inv.2)) ∙ front),
-    ))
-    (λ w.
-    let there : stays p ≡ false = asked ∙ w.0.left in (
-      omega arith,
-      omega (arith, w.2),
-      rw w.1 inv.2,
-      rw w.1 (rest_left old m i inv.3),
-      rw (w.1, w.2) (rw there at front),
-    ))
-    c.if-not-in_batch.branch
+    let asked = sym c.in_batch.ensures in
+    elim c.if-not-in_batch.branch [
+      then-not-in_batch w ↦
+          let mine : stays p ≡ true = ap not (asked ∙ w.if-not-in_batch.true) in
+          let put = place_set m kept _ ∙ ap (set (places_in m) kept) (sym c.pending_of.ensures) in (
+            omega arith,
+            omega (arith, w.kept-is),
+            rw w.queue-is (simp length-set inv.2),
+            rw w.queue-is (rest_same old m i inv.3 kept _ inv.1),
+            rw (w.queue-is, w.kept-is, put) (front_next stays (places_in m) kept p (drop (i + 1) (waiting old a.count)) mine (omega (arith, places-length m, inv.2)) ∙ front),
+          )
+    | else-not-in_batch w ↦
+        let there : stays p ≡ false = ap not (asked ∙ w.if-not-in_batch.false) in (
+          omega arith,
+          omega (arith, w.kept-is),
+          rw w.queue-is inv.2,
+          rw w.queue-is (rest_left old m i inv.3),
+          rw (w.queue-is, w.kept-is) (rw there at front),
+        )
+    ]
 
 pub returns : goal.returns
 returns c =
