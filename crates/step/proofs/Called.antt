@@ -3,7 +3,7 @@ use Prim.Native.Nat.{ℕ}
 use mathlib.Core.Path.{◌≡◌}
 use mathlib.Core.List.{List}
 use contract.Lifetimes.{Lfts}
-use denote.Ref.{Bor}
+use denote.MutBor.{MutBor}
 use Rattle.question.specs.Question.{after, map_answer}
 use Rattle.layout.specs.declared.clock.LocalTime.{LocalTime}
 use Rattle.rules.specs.Replica.{step}
@@ -17,10 +17,10 @@ use Rattle.step.proofs.stepping.step.Reads as step-contract
 pub record Steps (r : Replica) (at : LocalTime) (output : List ℕ) (s : Stepped) (output' : List ℕ) : Type 0 where
   pub lifetimes : Lfts 1
   -- the lent slice
-  pub slice : Bor (List ℕ)
+  pub slice : MutBor (List ℕ)
   pub lent : slice.now ≡ output
   pub learnt :
-      step-contract.Learnt lifetimes (r, (at, (slice, tt))) s (r, (at, (record { ref_ptr = slice.ptr; ghost_name = slice.name; now = output' }, tt)))
+      step-contract.Learnt lifetimes (r, (at, (slice, tt))) s (r, (at, (record { ref_ptr = slice.ref_ptr; ghost_name = slice.ghost_name; now = output' }, tt)))
 
 pub record SteppedAs (r : Replica) (at : LocalTime) (output : List ℕ) (s : Stepped) (output' : List ℕ) : Type 0 where
   pub answer : step_answer s.answer ≡ map_answer (λ d. d.count) (step (state_of r) at output)

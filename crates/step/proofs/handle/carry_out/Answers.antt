@@ -27,13 +27,13 @@ abbrev batch : Start → List Request
 batch c = requests_at c.args.t (waiting c.args.queue.now c.args.p.left)
 
 -- not all are reads
-mixed : (c : Else-all_reads) → all_reads (batch c.before.before.before.before) ≡ false
+mixed : (c : Else-all_reads) → all_reads (batch c.before.before.before.before.before) ≡ false
 mixed c = sym c.all_reads.ensures ∙ c.if-all_reads.false
 
 -- the owner's, and the store has not failed
-changing : (c : Else-not-may_change) → may_change c.args.u c.args.group (store c.before.before.before.before.before.before) ≡ true
+changing : (c : Else-not-may_change) → may_change c.args.u c.args.group (store c.before.before.before.before.before.before.before) ≡ true
 changing c =
-    sym (c.may_change.ensures (store c.before.before.before.before.before.before) refl) ∙ c.if-not-may_change.false
+    sym (c.may_change.ensures (store c.before.before.before.before.before.before.before) refl) ∙ c.if-not-may_change.false
 
 pub returns-then-all_reads : goal.returns-then-all_reads
 returns-then-all_reads c =

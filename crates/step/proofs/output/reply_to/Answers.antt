@@ -1,4 +1,4 @@
 use Rattle.step.proofs.output.reply_to.Goals as goal
 
 pub returns : goal.returns
-returns c = λ s e. rw (e, c.value_of_lem.ensures)
+returns c = λ s e. rw (e, c.value_of.ensures)

@@ -21,7 +21,7 @@ loop-process-preserved c =
     let a = c.args in
     let halt = halt_to a.group a.number a.t in (
       omega arith,
-      c.put-next.auto.1.1.1.0 ∙ c.loop-process.invariant.1,
+      c.put-next.auto.output ∙ c.loop-process.invariant.1,
       rw (c.put-next.ensures, c.halt_to.ensures, c.loop-process.invariant.2)
           (put-up_to a.u.k a.u.groups (written a.count a.output.now) halt c.loop-process.process),
     )

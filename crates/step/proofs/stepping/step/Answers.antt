@@ -26,14 +26,14 @@ decided c =
 finished : (c : After-renewed-replica) →
     let a = c.args in
     stepped (state_of a.r) a.at a.output.now
-    ≡ record { state = state_of c.renewed-replica.result; count = c.visits-done.result.count; output = c.visits-done.new.1.1.1.1.1.1.1.0 }
+    ≡ record { state = state_of c.renewed-replica.result; count = c.visits-done.result.count; output = c.visits-done.new.output }
 finished c =
     let a = c.args in
     let begun : (ℕ → List Pending) → State = λ queues. state_in a.r.settings a.r.number a.at queues a.r.writes a.r.variables in
-    let visited = c.visits-done.ensures ∙ ap (λ queues. sends a.r.settings (written 0 a.output.now) (visits a.r.settings.groups a.at (begun queues))) c.rows_of_lem.ensures in
-    let left : (ℕ → List Pending) → State = λ queues. state_in a.r.settings a.r.number a.at queues c.visits-done.result.writes c.visits-done.new.1.1.1.1.1.1.0 in
+    let visited = c.visits-done.ensures ∙ ap (λ queues. sends a.r.settings (written 0 a.output.now) (visits a.r.settings.groups a.at (begun queues))) c.rows_of-rows.ensures in
+    let left : (ℕ → List Pending) → State = λ queues. state_in a.r.settings a.r.number a.at queues c.visits-done.result.writes c.visits-done.new.variables in
     stepped-reached (state_of a.r) a.at a.output.now (reached_is (ap left c.places_of-pending.ensures) refl ∙ visited)
-    ∙ ap (λ (r : Replica). record { state = state_of r; count = c.visits-done.result.count; output = c.visits-done.new.1.1.1.1.1.1.1.0 }) (sym c.renewed-replica.ensures)
+    ∙ ap (λ (r : Replica). record { state = state_of r; count = c.visits-done.result.count; output = c.visits-done.new.output }) (sym c.renewed-replica.ensures)
 
 pub returns-in-Done : goal.returns-in-Done
 returns-in-Done c =

@@ -18,9 +18,9 @@ lent c =
 
 -- the questions, asked by themselves, decide the answer
 decided : (c : After-check_step) →
-    step (lent c.before.before.before.before) c.args.at c.args.output.now ≡ next (outcome c.check_step.result) (given (stepped (lent c.before.before.before.before) c.args.at c.args.output.now))
+    step (lent c.before.before.before.before.before) c.args.at c.args.output.now ≡ next (outcome c.check_step.result) (given (stepped (lent c.before.before.before.before.before) c.args.at c.args.output.now))
 decided c =
-    step_next (lent c.before.before.before.before) c.args.at c.args.output.now (outcome c.check_step.result) c.check_step.ensures
+    step_next (lent c.before.before.before.before.before) c.args.at c.args.output.now (outcome c.check_step.result) c.check_step.ensures
 
 pub returns-in-Done : goal.returns-in-Done
 returns-in-Done c =

@@ -11,10 +11,10 @@ use Rattle.step.specs.Output.{Reached, sends, part_in}
 use Rattle.step.proofs.Sends.{sends_as, sends-still}
 use Rattle.step.proofs.Visited.{whole, batch-fewer, visit-over, visit-sends}
 use Rattle.step.proofs.visit.visit.Goals as goal
-use Rattle.step.proofs.visit.visit.Goals.{In-At-2}
+use Rattle.step.proofs.visit.visit.Goals.{In-At}
 
 -- a head that is found is the queue's, and its batch is stable
-late : (c : In-At-2 →
+late : (c : In-At) →
     let a = c.args in
     let q = waiting c.loop-going.queue c.loop-going.done.left in
     (c.in-At.t ≡ head_timestamp q) × (is_stable a.u.delta a.at (batch_of q) ≡ true)
@@ -35,21 +35,21 @@ loop-going-preserved-in-Nothing c =
     (c.loop-going.invariant.0, c.loop-going.invariant.1, c.loop-going.invariant.2, λ e. no, c.loop-going.invariant.4)
 
 pub handle_batch-done-requires : goal.handle_batch-done-requires
-handle_batch-done-requires c = (late (goal.at.handle_batch-done-requires c).In-At-2).0
+handle_batch-done-requires c = (late (goal.at.handle_batch-done-requires c).In-At).0
 
 pub loop-going-smaller : goal.loop-going-smaller
 loop-going-smaller c =
     let a = c.args in
-    let fewer = batch-fewer a.u a.number a.group a.at (part_in c.loop-going.done c.loop-going.queue c.loop-going.variables) (late (goal.at.loop-going-smaller c).In-At-2).1 in
+    let fewer = batch-fewer a.u a.number a.group a.at (part_in c.loop-going.done c.loop-going.queue c.loop-going.variables) (late (goal.at.loop-going-smaller c).In-At).1 in
     omega (arith, ap (λ (x : Reached Part). length x.state.queue) c.handle_batch-done.ensures, fewer)
 
 pub loop-going-preserved : goal.loop-going-preserved
 loop-going-preserved c =
     let a = c.args in
-    let look = visit-sends a.u a.number a.group a.at (written c.loop-going.done.count c.loop-going.output) (part_in c.loop-going.done c.loop-going.queue c.loop-going.variables) (late (goal.at.loop-going-preserved c).In-At-2).1 in (
-      c.handle_batch-done.auto.1.1.1.1.1.0 ∙ c.loop-going.invariant.0,
-      c.handle_batch-done.auto.1.1.1.1.1.1.0 ∙ c.loop-going.invariant.1,
-      c.handle_batch-done.auto.1.1.1.1.1.1.1.0 ∙ c.loop-going.invariant.2,
+    let look = visit-sends a.u a.number a.group a.at (written c.loop-going.done.count c.loop-going.output) (part_in c.loop-going.done c.loop-going.queue c.loop-going.variables) (late (goal.at.loop-going-preserved c).In-At).1 in (
+      c.handle_batch-done.auto.queue ∙ c.loop-going.invariant.0,
+      c.handle_batch-done.auto.variables ∙ c.loop-going.invariant.1,
+      c.handle_batch-done.auto.output ∙ c.loop-going.invariant.2,
       λ e. true-not-false c.loop-going.going c.loop-going-test.true e,
       ap (λ (x : Reached Part). sends a.u x.output (whole a.u a.number a.group a.at x.state)) c.handle_batch-done.ensures
           ∙ (sym look ∙ c.loop-going.invariant.4),

@@ -8,8 +8,7 @@ pub returns : goal.returns
 returns c =
     let a = c.args in
     let begun : Progress = record { left = c.count_of.result; writes = a.p.writes; count = a.p.count } in
-    let last = c.visit-done.new.1.1.1.1.1 in
     rw (c.set_count.ensures, add-one a.i)
     (group-lent a.u a.number a.i a.at a.pending.now a.counts.now begun a.variables.now (written a.p.count a.output.now)
-    (rw (add-one a.i) at c.count_of.ensures) _ _ c.at_most-from.ensures c.at_most-to.ensures last.0 c.visit-done.auto.1.1.1.1.1.0 c.visit-done.result last.1.0 last.1.1.0
+    (rw (add-one a.i) at c.count_of.ensures) _ _ c.at_most-from.ensures c.at_most-to.ensures c.visit-done.new.queue c.visit-done.auto.queue c.visit-done.result c.visit-done.new.variables c.visit-done.new.output
     (rw (add-one a.i) at c.visit-done.ensures))

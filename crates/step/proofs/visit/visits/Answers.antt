@@ -21,13 +21,13 @@ loop-i-preserved c =
     let a = c.args in
     let inv = c.loop-i.invariant in
     let s = state_in a.u a.number a.at (queues_in a.pending.now a.counts.now) a.performed a.variables.now in
-    let kept = c.visit_group-done.auto.1.1.1.1.1 in
+    let kept = c.visit_group-done.auto in
     let so_far = ap (λ (x : Reached State). sends a.u x.output (visit_group (c.loop-i.i + 1) a.at x.state)) inv.5 in (
       omega arith,
-      kept.0 ∙ inv.1,
-      kept.1.0 ∙ inv.2,
-      kept.1.1.0 ∙ inv.3,
-      kept.1.1.1.0 ∙ inv.4,
+      kept.pending ∙ inv.1,
+      kept.counts ∙ inv.2,
+      kept.variables ∙ inv.3,
+      kept.output ∙ inv.4,
       (rw (← add-one c.loop-i.i) at c.visit_group-done.ensures) ∙ (so_far ∙ visits-sends a.u c.loop-i.i a.at (written 0 a.output.now) s),
     )
 
