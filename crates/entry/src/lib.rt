@@ -1,4 +1,6 @@
 // What a 40-byte record of the journal means: the setup that comes first, then deliveries and turns.
+#![tactic(auto)]
+
 mod entry;
 
 pub use entry::{EntryRead, SetupRead, read_entry, read_setup};

@@ -2,10 +2,10 @@
 use Prim.Native.Nat.{ℕ, zero, suc, ◌+◌, ◌-◌, min, ◌≤◌}
 use mathlib.Core.Path.{◌≡◌, refl, sym, ap, ◌∙◌}
 use mathlib.Core.Bool.{Bool, true, false}
-use mathlib.Core.List.{List, [], ◌∷◌, ◌++◌, append_assoc, append-nil}
+use mathlib.Core.List.{List, [], ◌∷◌, ◌++◌, append_assoc}
 use lib.Dec.{leb}
-use lib.ListN.{length, take, drop, length-append, length-take, length-drop, take-append-drop, drop_of_length-le}
-use lib.Seq.{length-take-le, take_all, take-length, take-nil, take_at, drop_at, drop-drop}
+use lib.ListN.{length, take, drop, length-append, length-take, length-drop, take-append-drop}
+use lib.Seq.{length-take-le, take_all, take-nil, take_at, drop_at, drop-drop}
 use native.Mathlib.Nat.{add-zero, sub-zero}
 use native.Mathlib.Omega.{arith}
 use borrow.Author.Tests.{leb-true, leb-false}
@@ -104,15 +104,12 @@ put-put p a b = both (leb p.used (length p.bytes)) refl where
       rw (put_full p a (omega arith), put_full p b (omega arith), put_full p (a ++ b) (omega arith))
 
 -- as much of the word as fits, through the part of the text behind what is used
-pub put-part : (text : List ℕ) (used : ℕ) (word part last : List ℕ) (count : ℕ) → used ≤ length text →
-    count ≡ min (length word) (length text - used) → part ≡ take count word →
-    last ≡ take (length part) part ++ drop (length part) (take (length text - used) (drop used text)) →
-    page (put_mid used (length text - used) text last) (used + count) ≡ put_text (page text used) word
+pub put-part : (text : List ℕ) (used : ℕ) (word : List ℕ) (count : ℕ) → used ≤ length text →
+    count ≡ min (length word) (length text - used) →
+    page (put_mid used count text (take count word)) (used + count) ≡ put_text (page text used) word
 unfolding put_text
-put-part text used word part last count h same first e =
+put-part text used word count h same =
     let free = length text - used in
-    let rest : take free (drop used text) ≡ drop used text = take_all free (drop used text) (rw length-drop (omega arith)) in
-    let none : drop free (drop used text) ≡ [] = drop_of_length-le (drop used text) {i = free} (rw length-drop (omega arith)) in
-    let long : length part ≡ count = rw first (length-take-le count word (omega arith)) in
-    let cut : take free word ≡ part = rw first (sym (rw same (take_min free word))) in
-    rw (none, append-nil, e, rest, take-length part, cut, long, drop-drop count used text)
+    let long : length (take count word) ≡ count = length-take-le count word (omega arith) in
+    let cut : take free word ≡ take count word = sym (rw same (take_min free word)) in
+    rw (cut, long, drop-drop count used text)

@@ -1,5 +1,7 @@
 // Text put into lent bytes, one piece behind the other. `used` is how many of the first bytes are
 // used before, and the result is how many are used then; what does not fit is cut off.
+#![tactic(auto)]
+
 ghost use Rattle.std.specs.Prelude.{◌≡◌, ◌∷◌};
 ghost use Rattle.text.specs.Text.{decimal, line};
 ghost use Rattle.text.specs.Page.{page, put_text};
@@ -13,7 +15,7 @@ fn put_word(word: &[u8], text: &mut [u8], used: usize) -> usize
         return used;
     }
     let count = at_most(text.len() - used, word.len());
-    bytes::copy(&word[0..count], &mut text[used..]);
+    text[used..used + count].copy_from_slice(&word[0..count]);
     used + count
 }
 
