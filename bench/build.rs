@@ -3,7 +3,7 @@
 use std::env;
 use std::path::Path;
 
-const LIBRARY: &str = "../target/staticlib/libexport.a";
+const LIBRARY: &str = "../crates/export/out/libexport.a";
 
 fn main() {
     println!("cargo:rerun-if-changed=build.rs");
@@ -18,7 +18,7 @@ fn main() {
 /// Without the library `cargo check` still works; only linking fails.
 fn link_if_present() {
     if Path::new(LIBRARY).exists() {
-        println!("cargo:rustc-link-search=native=../target/staticlib");
+        println!("cargo:rustc-link-search=native=../crates/export/out");
         println!("cargo:rustc-link-lib=static=export");
     } else {
         println!("cargo:warning={LIBRARY} is missing: only checking is possible");

@@ -18,7 +18,7 @@ use crate::traffic::{damage, Cast, Traffic};
 pub fn program() -> PathBuf {
     match std::env::var_os("JOURNAL") {
         Some(path) => path.into(),
-        None => Path::new(env!("CARGO_MANIFEST_DIR")).join("../target/bin/journal"),
+        None => Path::new(env!("CARGO_MANIFEST_DIR")).join("../crates/journal/out/journal"),
     }
 }
 
