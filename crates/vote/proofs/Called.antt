@@ -31,8 +31,8 @@ Votes k n q list answer = vote_answer answer ≡ vote k n q list
 abbrev pub Counts : ℕ → ℕ → ℕ → ℕ → List Message → HaltAnswer → Type 0
 Counts k n group process list answer = halt_answer answer ≡ halt_count k n group process list
 
--- The kit gives no plain reading of a contract over a lent list of structs. So the contract as the logic has it is held to these facts:
--- each is the whole `ensures` of its function in src/, and less there would not be equal.
+-- The contract as the logic has it is held to these facts: each is the whole `ensures` of its function in src/, and less there
+-- would not be equal.
 module _ {M : Type 1} {𝓤 : Ura M} (𝓛 : Logic 𝓤) (mem : Memory → SProp 𝓤) (run : Routine → Fun 𝓤) (lifetimes : Lfts 1) where
   pub vote_promises : (k n : ℕ) (q : Query) (list : Bor (List Message)) (answer : VoteAnswer)
       → (vote-contract.clauses 𝓛 mem run lifetimes (k, (n, (q, (list, tt))))).ensures tt answer (k, (n, (q, (list, tt))))
