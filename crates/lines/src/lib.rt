@@ -1,4 +1,6 @@
 // A journal's lines, put into a lent text one behind the other, as the library `text` does.
+#![tactic(auto)]
+
 ghost use Rattle.std.specs.Prelude.{◌≡◌, [], ◌∷◌, ◌++◌, map};
 ghost use Rattle.text.specs.Text.{joined, line};
 ghost use Rattle.text.specs.Page.{page, put_text};
