@@ -3,6 +3,8 @@
 // Read on in this order: `pending` (the head of a queue, and its batch), `unanimity` (all reads, or a
 // unanimous write). The contracts cite specs/Head.antt; that the head found is the rules':
 // proofs/Stable.antt.
+#![tactic(auto)]
+
 mod pending;
 mod unanimity;
 

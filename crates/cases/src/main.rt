@@ -1,6 +1,8 @@
 // Runs the cases of document 01 that are to be executed: a script from standard input, a case a line.
 // Each line is printed again with what the call answered. That the expected text is what document 01
 // means is checked in bench/tests/expected.rs, against the independent model there.
+#![tactic(auto)]
+
 mod records;
 mod replicas;
 mod script;

@@ -1,5 +1,7 @@
 // The questions that more than one call asks: of the settings of a unit (making, and the setup of a
 // journal), and of a local time (delivery, and step).
+#![tactic(auto)]
+
 ghost use Rattle.std.specs.Prelude.{◌≡◌};
 ghost use Rattle.question.specs.Question.{given, worked, ask, outcome};
 ghost use Rattle.rules.specs.Replica.{settings_questions, time_questions};

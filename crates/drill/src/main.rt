@@ -1,4 +1,6 @@
 // Prints the drill sheet of document 02's A1. It only writes what the library `sheet` makes.
+#![tactic(auto)]
+
 use sheet::SHEET;
 
 const STDOUT: i32 = 1;

@@ -3,6 +3,8 @@
 // for each result.
 //
 // Read on in this order: `records`, `replicas`, `votes`, `units`.
+#![tactic(auto)]
+
 mod records;
 mod replicas;
 mod units;

@@ -1,6 +1,8 @@
 // Plays journals of whole units and prints what they did: the one on standard input; or, where there
 // are arguments, the file that each names, `-` for standard input, under a line with its name. It
 // only reads, hands on to the library `playback`, and writes.
+#![tactic(auto)]
+
 mod output;
 mod player;
 

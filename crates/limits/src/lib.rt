@@ -1,5 +1,7 @@
 // Document 01's sizes and limits, each said once. The definitions take the same numbers from
 // specs/Limits.antt.
+#![tactic(auto)]
+
 ghost use Rattle.std.specs.Prelude.{min, ◌≡◌};
 
 // k is at most this.

@@ -1,6 +1,8 @@
 // A test of the library `playback`: it plays the journals of crates/journal in pieces of odd sizes, with
 // texts of odd room, and must print what crates/journal prints. The arguments name the journals, `-`
 // standard input.
+#![tactic(auto)]
+
 mod output;
 mod player;
 mod tables;

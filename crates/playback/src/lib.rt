@@ -5,6 +5,8 @@
 // Read on in this order: `stage` (how far it has come), `unit` (the replicas, lent side by side), `play`
 // (one record), `block` (a block of them), `end`, `left` (the bytes between two blocks). specs/Arrays.antt
 // has the unit that the arrays stand for, specs/Calls.antt what a call promises.
+#![tactic(auto)]
+
 mod block;
 mod end;
 mod left;

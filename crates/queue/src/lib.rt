@@ -3,6 +3,8 @@
 //
 // Read on in this order: `row` (one request), `places` (those of a replica). The contracts cite
 // specs/Row.antt and specs/Queue.antt, and crates/state for the places.
+#![tactic(auto)]
+
 mod places;
 mod row;
 

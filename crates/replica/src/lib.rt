@@ -5,6 +5,8 @@
 // Read on in this order: crates/state (the struct, and make), crates/queue (one group's pending
 // requests), crates/batch (those with the least timestamp), crates/delivery, crates/step. What runs of
 // these calls amount to: crates/unit.
+#![tactic(auto)]
+
 pub use delivery::{Delivered, deliver};
 pub use state::{Made, Replica, make};
 pub use step::{StepAnswer, Stepped, step};

@@ -1,5 +1,7 @@
 // A small session of document 02's A1, brought to a replica, and the figures that it leaves there:
 // those of the register machine.
+#![tactic(auto)]
+
 ghost use Rattle.std.specs.Prelude.{◌≤◌, ◌≡◌, [], ◌∷◌, map, replicate};
 ghost use Rattle.limits.specs.Limits.{record_size};
 ghost use Rattle.question.specs.Question.{given};

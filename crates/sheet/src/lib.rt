@@ -1,4 +1,6 @@
 // The drill sheet of document 02's A1: a line for each small session (crates/session).
+#![tactic(auto)]
+
 ghost use Rattle.std.specs.Prelude.{◌≡◌};
 ghost use Rattle.question.specs.Question.{after, verdict, outcome};
 ghost use Rattle.text.specs.Page.{page, put_text};

@@ -3,6 +3,8 @@
 // Read on in this order: `output` (the messages), `handle` (one batch), `visit` (the groups), `stepping`.
 // The contracts cite specs/Output.antt (what is reached while the output is written) and
 // specs/Answer.antt.
+#![tactic(auto)]
+
 mod handle;
 mod output;
 mod stepping;

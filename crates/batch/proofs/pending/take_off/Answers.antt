@@ -38,7 +38,7 @@ loop-i-preserved c =
     let front = rw next at inv.4 in
     let asked = sym c.in_batch.ensures in
     elim c.if-not-in_batch.branch [
-      then-not-in_batch w ↦
+      | then-not-in_batch w ↦
           let mine : stays p ≡ true = ap not (asked ∙ w.if-not-in_batch.true) in
           let put = place_set m kept _ ∙ ap (set (places_in m) kept) (sym c.pending_of.ensures) in (
             omega arith,
@@ -47,14 +47,14 @@ loop-i-preserved c =
             rw w.queue-is (rest_same old m i inv.3 kept _ inv.1),
             rw (w.queue-is, w.kept-is, put) (front_next stays (places_in m) kept p (drop (i + 1) (waiting old a.count)) mine (omega (arith, places-length m, inv.2)) ∙ front),
           )
-    | else-not-in_batch w ↦
-        let there : stays p ≡ false = ap not (asked ∙ w.if-not-in_batch.false) in (
-          omega arith,
-          omega (arith, w.kept-is),
-          rw w.queue-is inv.2,
-          rw w.queue-is (rest_left old m i inv.3),
-          rw (w.queue-is, w.kept-is) (rw there at front),
-        )
+      | else-not-in_batch w ↦
+          let there : stays p ≡ false = ap not (asked ∙ w.if-not-in_batch.false) in (
+            omega arith,
+            omega (arith, w.kept-is),
+            rw w.queue-is inv.2,
+            rw w.queue-is (rest_left old m i inv.3),
+            rw (w.queue-is, w.kept-is) (rw there at front),
+          )
     ]
 
 pub returns : goal.returns

@@ -26,7 +26,7 @@ loop-i-preserved c =
     let next = left_row a.queue.now a.count c.loop-i.i _ c.pending_of-p.ensures (omega (arith, c.pending_count-n.ensures.is)) in
     let asked = sym c.in_batch.ensures in
     elim c.if-in_batch.branch [
-      then-in_batch w ↦
+      | then-in_batch w ↦
           let mine : stamped a.t p.request ≡ true = asked ∙ w.if-in_batch.true in (
             omega arith,
             rw w.seen-is (simp length-set inv.1),
@@ -34,15 +34,15 @@ loop-i-preserved c =
             rw w.size-is (size_step a.t p rest c.loop-i.size mine ∙ (rw next at inv.3)),
             rw (w.seen-is, w.same-is, w.agrees.ensures) (agree-step a.first a.t p rest c.loop-i.seen (omega arith) c.loop-i.same mine ∙ (rw next at inv.4)),
           )
-    | else-in_batch w ↦
-        let other : stamped a.t p.request ≡ false = asked ∙ w.if-in_batch.false in
-        let same = batch_pass a.t p rest other in (
-          omega arith,
-          rw w.seen-is inv.1,
-          omega (arith, w.size-is),
-          rw (w.size-is, ← same) (rw next at inv.3),
-          rw (w.seen-is, w.same-is, ← same) (rw next at inv.4),
-        )
+      | else-in_batch w ↦
+          let other : stamped a.t p.request ≡ false = asked ∙ w.if-in_batch.false in
+          let same = batch_pass a.t p rest other in (
+            omega arith,
+            rw w.seen-is inv.1,
+            omega (arith, w.size-is),
+            rw (w.size-is, ← same) (rw next at inv.3),
+            rw (w.seen-is, w.same-is, ← same) (rw next at inv.4),
+          )
     ]
 
 pub returns : goal.returns

@@ -21,20 +21,20 @@ loop-i-preserved c =
     let next = left_row a.queue.now a.left c.loop-i.i _ c.pending_of-p.ensures (omega (arith, c.pending_count-n.ensures.is)) in
     let mine = c.in_batch.ensures in
     elim c.if-in_batch.branch [
-      then-in_batch w ↦
+      | then-in_batch w ↦
           let here : stamped a.t p.request ≡ true = sym mine ∙ w.if-in_batch.true in
           let one : written c.if-in_batch.next c.if-in_batch.output ≡ put a.u.k a.u.groups (written c.loop-i.next c.loop-i.output) w.reply_to.result =
-              rw (w.output-is, w.next-is) w.put-next.ensures in (
+          rw (w.output-is, w.next-is) w.put-next.ensures in (
             omega arith,
             ap length w.output-is ∙ (w.put-next.auto.output ∙ inv.1),
             λ s e. rw (one, w.reply_to.ensures s e) (rw (next, here) at (inv.2 s e)),
           )
-    | else-in_batch w ↦
-        let there : stamped a.t p.request ≡ false = sym mine ∙ w.if-in_batch.false in (
-          omega arith,
-          ap length w.output-is ∙ inv.1,
-          λ s e. rw (w.output-is, w.next-is) (rw (next, there) at (inv.2 s e)),
-        )
+      | else-in_batch w ↦
+          let there : stamped a.t p.request ≡ false = sym mine ∙ w.if-in_batch.false in (
+            omega arith,
+            ap length w.output-is ∙ inv.1,
+            λ s e. rw (w.output-is, w.next-is) (rw (next, there) at (inv.2 s e)),
+          )
     ]
 
 pub shape_of-output : goal.shape_of-output
