@@ -4,6 +4,7 @@ use mathlib.Core.Path.{◌≡◌, refl}
 use mathlib.Core.Bool.{false}
 use mathlib.Core.List.{List}
 use contract.Lifetimes.{Lfts}
+use denote.MutBor.{MutBor}
 use denote.Ref.{Bor}
 use lib.ListN.{length}
 use Rattle.text.specs.Page.{page, put_text}
@@ -16,23 +17,27 @@ use Rattle.playback.proofs.block.play_block.Reads as block-contract
 use Rattle.playback.proofs.end.play_end.Reads as end-contract
 
 -- a reference, with what it refers to at a moment
-abbrev pub holding : {A : Type 0} → Bor A → A → Bor A
-holding r x = record { ref_ptr = r.ptr; ghost_name = r.name; now = x }
+abbrev pub holding : {A : Type 0} → MutBor A → A → MutBor A
+holding r x = record { ref_ptr = r.ref_ptr; ghost_name = r.ghost_name; now = x }
+
+-- the same of a shared one
+abbrev pub showing : {A : Type 0} → Bor A → A → Bor A
+showing r x = record { ref_ptr = r.ref_ptr; now = x }
 
 -- the arrays held `before` and the text `text`; afterwards they hold `after` and `text'`
 pub record PlaysBlock (stage : Stage) (before : Arrays) (block text : List ℕ) (b : Block) (after : Arrays) (text' : List ℕ) : Type 0 where
   pub lifetimes : Lfts 7
   pub lent : Bor (List ℕ)
-  pub pending : Bor (List (List ℕ))
-  pub counts : Bor (List ℕ)
-  pub variables : Bor (List ℕ)
-  pub writes : Bor (List ℕ)
-  pub lasts : Bor (List ℕ)
-  pub page : Bor (List ℕ)
+  pub pending : MutBor (List (List ℕ))
+  pub counts : MutBor (List ℕ)
+  pub variables : MutBor (List ℕ)
+  pub writes : MutBor (List ℕ)
+  pub lasts : MutBor (List ℕ)
+  pub page : MutBor (List ℕ)
   pub learnt :
       block-contract.Learnt lifetimes
-      (stage, (holding lent block, (holding pending before.pending, (holding counts before.counts, (holding variables before.variables, (holding writes before.writes, (holding lasts before.lasts, (holding page text, tt)))))))) b
-      (stage, (holding lent block, (holding pending after.pending, (holding counts after.counts, (holding variables after.variables, (holding writes after.writes, (holding lasts after.lasts, (holding page text', tt))))))))
+      (stage, (showing lent block, (holding pending before.pending, (holding counts before.counts, (holding variables before.variables, (holding writes before.writes, (holding lasts before.lasts, (holding page text, tt)))))))) b
+      (stage, (showing lent block, (holding pending after.pending, (holding counts after.counts, (holding variables after.variables, (holding writes after.writes, (holding lasts after.lasts, (holding page text', tt))))))))
 
 pub plays_mean : {stage : Stage} {before : Arrays} {block text : List ℕ} {b : Block} {after : Arrays} {text' : List ℕ}
     → PlaysBlock stage before block text b after text'
@@ -46,11 +51,11 @@ pub record PlaysEnd (stage : Stage) (a : Arrays) (rest text : List ℕ) (n : ℕ
   pub lent : Bor (List ℕ)
   pub variables : Bor (List ℕ)
   pub writes : Bor (List ℕ)
-  pub page : Bor (List ℕ)
+  pub page : MutBor (List ℕ)
   pub learnt :
       end-contract.Learnt lifetimes
-      (stage, (holding lent rest, (holding variables a.variables, (holding writes a.writes, (holding page text, tt))))) n
-      (stage, (holding lent rest, (holding variables a.variables, (holding writes a.writes, (holding page text', tt)))))
+      (stage, (showing lent rest, (showing variables a.variables, (showing writes a.writes, (holding page text, tt))))) n
+      (stage, (showing lent rest, (showing variables a.variables, (showing writes a.writes, (holding page text', tt)))))
 
 pub end_means : {stage : Stage} {a : Arrays} {rest text : List ℕ} {n : ℕ} {text' : List ℕ}
     → PlaysEnd stage a rest text n text' → page text' n ≡ put_text (page text 0) (play_end (unit_in stage a) rest)

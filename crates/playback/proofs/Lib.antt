@@ -1,6 +1,7 @@
-pub mod Record
 pub mod Arrays
-pub mod Loop
-pub mod New
-pub mod Cards
 pub mod Called
+pub mod Cards
+pub mod Loop
+pub mod Moved
+pub mod New
+pub mod Record
