@@ -5,6 +5,7 @@ use mathlib.Core.Bool.{Bool}
 use mathlib.Core.List.Memᴰ
 use mathlib.Core.List.{List, [], ◌∷◌, flat_map}
 use native.Mathlib.Omega.{arith}
+use denote.MutBor.{MutBor}
 use denote.Ref.{Bor}
 use Rattle.question.specs.Question.{Answer, given, refused, after, map_answer, verdict, outcome}
 use Rattle.question.specs.declared.Outcome.{Outcome}
@@ -31,8 +32,11 @@ use Rattle.unit.proofs.Same.{supposed_same}
 use Rattle.unit.proofs.Structs.{replica_of, state_of_struct}
 
 -- a lent slice
-abbrev lent_as : List ℕ → Bor (List ℕ)
-lent_as bytes = record { ref_ptr = (0, 0); now = bytes }
+abbrev shown_as : List ℕ → Bor (List ℕ)
+shown_as bytes = record { ref_ptr = (0, 0); now = bytes }
+
+abbrev lent_as : List ℕ → MutBor (List ℕ)
+lent_as bytes = record { ref_ptr = (0, 0); ghost_name = 0; now = bytes }
 
 -- ── the answers of the rules as the code gives them ──
 
@@ -83,7 +87,7 @@ delivery-done s bytes at lent before behind =
     let same = sym before in
     delivers lent (record {
       lifetimes = ([], tt);
-      slice = lent_as bytes;
+      slice = shown_as bytes;
       lent = refl;
       learnt = (
         outcome_is a ∙ ap (λ (t : State). verdict (deliver t bytes at)) same,

@@ -5,6 +5,7 @@ use mathlib.Core.Bool.{true, false}
 use mathlib.Core.List.{List, []}
 use lib.ListN.{length, take, replicate, length-take, length-replicate}
 use native.Mathlib.Omega.{arith}
+use denote.MutBor.{MutBor}
 use denote.Ref.{Bor}
 use Rattle.text.proofs.Ascii.{ascii}
 use Rattle.text.specs.Page.{Page, page, put_text}
@@ -32,8 +33,11 @@ use Rattle.unit.proofs.Journal.{written, journal_of_code}
 
 -- ── calls that the contracts admit ──
 
-abbrev somewhere : {A : Type 0} → A → Bor A
-somewhere x = record { ref_ptr = (0, 0); now = x }
+abbrev shown : {A : Type 0} → A → Bor A
+shown x = record { ref_ptr = (0, 0); now = x }
+
+abbrev lent : {A : Type 0} → A → MutBor A
+lent x = record { ref_ptr = (0, 0); ghost_name = 0; now = x }
 
 made : {stage : Stage} {before : Arrays} {bytes text : List ℕ} {b : Block} {after : Arrays} {text' : List ℕ}
     → AsPlayed (play_block (length text) (unit_in stage before) bytes) (unit_in b.stage after) b.taken (page text 0) (page text' b.used)
@@ -41,13 +45,13 @@ made : {stage : Stage} {before : Arrays} {bytes text : List ℕ} {b : Block} {af
 made {before = before} {bytes = bytes} {text = text} plays kept =
     record {
       lifetimes = ([], ([], ([], ([], ([], ([], ([], tt)))))));
-      lent = somewhere bytes;
-      pending = somewhere before.pending;
-      counts = somewhere before.counts;
-      variables = somewhere before.variables;
-      writes = somewhere before.writes;
-      lasts = somewhere before.lasts;
-      page = somewhere text;
+      lent = shown bytes;
+      pending = lent before.pending;
+      counts = lent before.counts;
+      variables = lent before.variables;
+      writes = lent before.writes;
+      lasts = lent before.lasts;
+      page = lent text;
       learnt = (plays, kept);
     }
 
@@ -97,10 +101,10 @@ module _ (before : Arrays) where
   closes =
       record {
         lifetimes = ([], ([], ([], ([], tt))));
-        lent = somewhere [];
-        variables = somewhere after.variables;
-        writes = somewhere after.writes;
-        page = somewhere text;
+        lent = shown [];
+        variables = shown after.variables;
+        writes = shown after.writes;
+        page = lent text;
         learnt = λ a e f. rw (card a e f);
       }
 
