@@ -1,4 +1,4 @@
-/* The fail-stop store for C: the functions of libexport.a, which `rt staticlib export` writes.
+/* The fail-stop store for C: the functions of libexport.a, which `rt lib` in crates/export writes.
  *
  * Each takes any values, reads and writes only the bytes that it is lent, and ends. A `refusal`
  * is 0 where the call did its work, and otherwise one of the numbers below; then nothing has changed. */
