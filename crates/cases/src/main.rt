@@ -3,12 +3,14 @@
 // means is checked in bench/tests/expected.rs, against the independent model there.
 #![tactic(auto)]
 
+mod input;
 mod records;
 mod replicas;
 mod script;
 mod show;
 mod votes;
 
+use input::read_full;
 use replica::Replica;
 use rules::Settings;
 use script::{Name, Scan};
@@ -21,58 +23,58 @@ pub struct Kept {
     pub heard: Heard,
 }
 
-fn run_record(name: Name, s: Scan) {
+fn run_record(rt: &impl Print, name: Name, s: Scan) {
     match name {
-        Name::ReadRequest => records::read_request(s),
-        Name::ReadMessage => records::read_message(s),
-        Name::WriteRequest => records::write_request(s),
-        Name::WriteMessage => records::write_message(s),
+        Name::ReadRequest => records::read_request(rt, s),
+        Name::ReadMessage => records::read_message(rt, s),
+        Name::WriteRequest => records::write_request(rt, s),
+        Name::WriteMessage => records::write_message(rt, s),
         _ => {}
     }
 }
 
-fn run_replica(name: Name, s: Scan, r: Replica) -> Replica {
+fn run_replica(rt: &impl Print, name: Name, s: Scan, r: Replica) -> Replica {
     match name {
-        Name::Make => replicas::make(s),
+        Name::Make => replicas::make(rt, s),
         Name::Spoil => replicas::spoil(s, r),
-        Name::Deliver => replicas::deliver(s, r),
-        Name::Step => replicas::step(s, r),
+        Name::Deliver => replicas::deliver(rt, s, r),
+        Name::Step => replicas::step(rt, s, r),
         _ => r,
     }
 }
 
-fn run_vote(name: Name, s: Scan, h: Heard) -> Heard {
+fn run_vote(rt: &impl Print, name: Name, s: Scan, h: Heard) -> Heard {
     match name {
         Name::Clear => votes::none(),
         Name::Hear => votes::hear(s, h),
         Name::Vote => {
-            votes::show_vote(s, h);
+            votes::show_vote(rt, s, h);
             h
         }
         Name::Halts => {
-            votes::show_halts(s, h);
+            votes::show_halts(rt, s, h);
             h
         }
         _ => h,
     }
 }
 
-fn run_line(line: &[u8], kept: Kept) -> Kept {
-    io::write_all(1, line);
+fn run_line(rt: &impl Print, line: &[u8], kept: Kept) -> Kept {
+    show::words(rt, line);
     let name = script::name_of(line);
     let s = script::scan_line(line);
     let r = kept.replica;
     let h = kept.heard;
-    run_record(name, s);
-    let replica = run_replica(name, s, r);
-    let heard = run_vote(name, s, h);
-    io::write_all(1, b"\n");
+    run_record(rt, name, s);
+    let replica = run_replica(rt, name, s, r);
+    let heard = run_vote(rt, name, s, h);
+    show::words(rt, b"\n");
     Kept { replica, heard }
 }
 
-fn main() {
+fn main(rt: HostRuntime) {
     let mut text = [0u8; 131072];
-    let filled = io::read_full(0, &mut text);
+    let filled = read_full(&mut rt.stdin(), &mut text);
     let least = Settings {
         k: 0,
         groups: 1,
@@ -87,7 +89,7 @@ fn main() {
     while at < filled {
         let end = script::line_end(&text, at);
         if at < end {
-            kept = run_line(&text[at..end], kept);
+            kept = run_line(&rt, &text[at..end], kept);
         }
         at = end + 1;
     }

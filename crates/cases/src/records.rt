@@ -26,51 +26,51 @@ fn byte_at(s: Scan, from: usize, i: usize) -> u8 {
     s.byte(from + i)
 }
 
-fn read_request_in(k: u8, n: u8, b: &[u8], length: usize) {
+fn read_request_in(rt: &impl Print, k: u8, n: u8, b: &[u8], length: usize) {
     if b.len() < length {
         return;
     }
     match record::read_request(k, n, &b[0..length]) {
-        RequestRead::Accepted(r) => crate::show::request(r),
-        RequestRead::Refused(q) => crate::show::refused(q),
+        RequestRead::Accepted(r) => crate::show::request(rt, r),
+        RequestRead::Refused(q) => crate::show::refused(rt, q),
     }
 }
 
-pub(crate) fn read_request(s: Scan) {
+pub(crate) fn read_request(rt: &impl Print, s: Scan) {
     if s.count < 2 {
         return;
     }
     let b = bytes_from(s, 2);
-    read_request_in(s.byte(0), s.byte(1), &b, s.count - 2);
+    read_request_in(rt, s.byte(0), s.byte(1), &b, s.count - 2);
 }
 
-fn read_message_in(k: u8, n: u8, b: &[u8], length: usize) {
+fn read_message_in(rt: &impl Print, k: u8, n: u8, b: &[u8], length: usize) {
     if b.len() < length {
         return;
     }
     match record::read_message(k, n, &b[0..length]) {
-        MessageRead::Accepted(m) => crate::show::accepted(m),
-        MessageRead::Refused(q) => crate::show::refused(q),
+        MessageRead::Accepted(m) => crate::show::accepted(rt, m),
+        MessageRead::Refused(q) => crate::show::refused(rt, q),
     }
 }
 
-pub(crate) fn read_message(s: Scan) {
+pub(crate) fn read_message(rt: &impl Print, s: Scan) {
     if s.count < 2 {
         return;
     }
     let b = bytes_from(s, 2);
-    read_message_in(s.byte(0), s.byte(1), &b, s.count - 2);
+    read_message_in(rt, s.byte(0), s.byte(1), &b, s.count - 2);
 }
 
-fn write_request_in(k: u8, n: u8, r: Request, d: &mut [u8], length: usize) {
+fn write_request_in(rt: &impl Print, k: u8, n: u8, r: Request, d: &mut [u8], length: usize) {
     if d.len() < length {
         return;
     }
-    crate::show::outcome(record::write_request(k, n, r, &mut d[0..length]));
-    crate::show::bytes(d, length);
+    crate::show::outcome(rt, record::write_request(k, n, r, &mut d[0..length]));
+    crate::show::bytes(rt, d, length);
 }
 
-pub(crate) fn write_request(s: Scan) {
+pub(crate) fn write_request(rt: &impl Print, s: Scan) {
     let timestamp = Timestamp(s.number(7));
     let r = Request {
         kind: s.byte(3),
@@ -81,15 +81,22 @@ pub(crate) fn write_request(s: Scan) {
         value: s.word(8),
     };
     let mut d = [170u8; 32];
-    write_request_in(s.byte(0), s.byte(1), r, &mut d, (s.number(2) % 33) as usize);
+    write_request_in(
+        rt,
+        s.byte(0),
+        s.byte(1),
+        r,
+        &mut d,
+        (s.number(2) % 33) as usize,
+    );
 }
 
-fn write_message_in(k: u8, n: u8, m: Message, d: &mut [u8], length: usize) {
+fn write_message_in(rt: &impl Print, k: u8, n: u8, m: Message, d: &mut [u8], length: usize) {
     if d.len() < length {
         return;
     }
-    crate::show::outcome(record::write_message(k, n, m, &mut d[0..length]));
-    crate::show::bytes(d, length);
+    crate::show::outcome(rt, record::write_message(k, n, m, &mut d[0..length]));
+    crate::show::bytes(rt, d, length);
 }
 
 // The seven fields of a message, from a place on.
@@ -115,8 +122,15 @@ fn message_from_here(s: Scan, from: usize) -> Message
     }
 }
 
-pub(crate) fn write_message(s: Scan) {
+pub(crate) fn write_message(rt: &impl Print, s: Scan) {
     let m = message_from(s, 3);
     let mut d = [170u8; 32];
-    write_message_in(s.byte(0), s.byte(1), m, &mut d, (s.number(2) % 33) as usize);
+    write_message_in(
+        rt,
+        s.byte(0),
+        s.byte(1),
+        m,
+        &mut d,
+        (s.number(2) % 33) as usize,
+    );
 }

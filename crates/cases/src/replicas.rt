@@ -9,16 +9,16 @@ use record::{LocalTime, MessageRead};
 use replica::{Replica, StepAnswer};
 use rules::Settings;
 
-fn show_replica(r: Replica) {
-    io::write_all(1, b" ;");
-    crate::show::number(r.variables[0] as u64);
-    crate::show::number(r.variables[4] as u64);
-    crate::show::number(r.writes);
-    crate::show::number(r.counts[0] as u64);
-    crate::show::number(r.counts[1] as u64);
-    crate::show::number(r.counts[2] as u64);
-    crate::show::number(r.counts[3] as u64);
-    crate::show::number(r.last.0);
+fn show_replica(rt: &impl Print, r: Replica) {
+    crate::show::words(rt, b" ;");
+    crate::show::number(rt, r.variables[0] as u64);
+    crate::show::number(rt, r.variables[4] as u64);
+    crate::show::number(rt, r.writes);
+    crate::show::number(rt, r.counts[0] as u64);
+    crate::show::number(rt, r.counts[1] as u64);
+    crate::show::number(rt, r.counts[2] as u64);
+    crate::show::number(rt, r.counts[3] as u64);
+    crate::show::number(rt, r.last.0);
 }
 
 // The first four numbers: k, N, owner, delta.
@@ -32,10 +32,10 @@ fn settings_from(s: Scan) -> Settings {
 }
 
 // After a refused making it is the blank replica that stands beside the number.
-pub(crate) fn make(s: Scan) -> Replica {
+pub(crate) fn make(rt: &impl Print, s: Scan) -> Replica {
     let m = replica::make(settings_from(s), s.byte(4));
     let outcome = m.outcome;
-    crate::show::outcome(outcome);
+    crate::show::outcome(rt, outcome);
     m.replica
 }
 
@@ -53,36 +53,36 @@ pub(crate) fn spoil(s: Scan, old: Replica) -> Replica {
     r
 }
 
-fn deliver_in(r: Replica, at: LocalTime, b: &[u8], length: usize) -> Replica {
+fn deliver_in(rt: &impl Print, r: Replica, at: LocalTime, b: &[u8], length: usize) -> Replica {
     if b.len() < length {
         return r;
     }
     let d = replica::deliver(r, &b[0..length], at);
     let after = d.replica;
     let outcome = d.outcome;
-    crate::show::outcome(outcome);
-    show_replica(after);
+    crate::show::outcome(rt, outcome);
+    show_replica(rt, after);
     after
 }
 
-pub(crate) fn deliver(s: Scan, r: Replica) -> Replica {
+pub(crate) fn deliver(rt: &impl Print, s: Scan, r: Replica) -> Replica {
     if s.count < 1 {
         return r;
     }
     let b = bytes_from(s, 1);
-    deliver_in(r, LocalTime(s.number(0)), &b, s.count - 1)
+    deliver_in(rt, r, LocalTime(s.number(0)), &b, s.count - 1)
 }
 
 // The message of a record of the output.
-fn show_record(r: Replica, b: &[u8]) {
-    io::write_all(1, b" :");
+fn show_record(rt: &impl Print, r: Replica, b: &[u8]) {
+    crate::show::words(rt, b" :");
     match record::read_message(r.settings.k, r.settings.groups, b) {
-        MessageRead::Accepted(m) => crate::show::message(m),
+        MessageRead::Accepted(m) => crate::show::message(rt, m),
         MessageRead::Refused(_) => {}
     }
 }
 
-fn show_records(r: Replica, output: &[u8], count: usize) {
+fn show_records(rt: &impl Print, r: Replica, output: &[u8], count: usize) {
     let mut at: usize = 0;
     let mut i: usize = 0;
     while i < count {
@@ -93,22 +93,22 @@ fn show_records(r: Replica, output: &[u8], count: usize) {
             return;
         }
         let end = at + RECORD;
-        show_record(r, &output[at..end]);
+        show_record(rt, r, &output[at..end]);
         at = end;
         i += 1;
     }
 }
 
 // How many bytes at the end of the output are still 170.
-fn show_kept(output: &[u8]) {
+fn show_kept(rt: &impl Print, output: &[u8]) {
     let mut kept: u64 = 0;
     let mut i: usize = 0;
     while i < output.len() {
         kept = kept_after(kept, output[i]);
         i += 1;
     }
-    io::write_all(1, b" kept");
-    crate::show::number(kept);
+    crate::show::words(rt, b" kept");
+    crate::show::number(rt, kept);
 }
 
 fn kept_after(kept: u64, b: u8) -> u64 {
@@ -120,7 +120,13 @@ fn kept_after(kept: u64, b: u8) -> u64 {
     0
 }
 
-fn step_in(r: Replica, at: LocalTime, output: &mut [u8], length: usize) -> Replica {
+fn step_in(
+    rt: &impl Print,
+    r: Replica,
+    at: LocalTime,
+    output: &mut [u8],
+    length: usize,
+) -> Replica {
     if output.len() < length {
         return r;
     }
@@ -129,20 +135,21 @@ fn step_in(r: Replica, at: LocalTime, output: &mut [u8], length: usize) -> Repli
     let answer = d.answer;
     match answer {
         StepAnswer::Sent(count) => {
-            io::write_all(1, b" -> sent");
-            crate::show::number(count as u64);
-            show_records(after, &output[0..length], count);
+            crate::show::words(rt, b" -> sent");
+            crate::show::number(rt, count as u64);
+            show_records(rt, after, &output[0..length], count);
         }
-        StepAnswer::Refused(n) => crate::show::refused(n),
+        StepAnswer::Refused(n) => crate::show::refused(rt, n),
     }
-    show_kept(&output[0..length]);
-    show_replica(after);
+    show_kept(rt, &output[0..length]);
+    show_replica(rt, after);
     after
 }
 
-pub(crate) fn step(s: Scan, r: Replica) -> Replica {
+pub(crate) fn step(rt: &impl Print, s: Scan, r: Replica) -> Replica {
     let mut output = [170u8; 1700];
     step_in(
+        rt,
         r,
         LocalTime(s.number(0)),
         &mut output,

@@ -164,7 +164,8 @@ pub(crate) fn scan_line(line: &[u8]) -> Scan {
 // The end of the line that starts at a place.
 pub(crate) fn line_end(text: &[u8], at: usize) -> usize
     requires { at ≤ length text.now }
-    ensures { (at ≤ result) × (result ≤ length text.now) }
+    ensures from { at ≤ result }
+    ensures within { result ≤ length text.now }
 {
     let mut end = at;
     while end < text.len() {

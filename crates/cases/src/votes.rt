@@ -29,7 +29,7 @@ pub(crate) fn hear(s: Scan, h: Heard) -> Heard {
     next
 }
 
-pub(crate) fn show_vote(s: Scan, h: Heard) {
+pub(crate) fn show_vote(rt: &impl Print, s: Scan, h: Heard) {
     let q = Query {
         group: s.byte(2),
         process: s.byte(3),
@@ -38,15 +38,15 @@ pub(crate) fn show_vote(s: Scan, h: Heard) {
     };
     let list = h.list;
     match vote::vote_in(s.byte(0), s.byte(1), q, list, h.count) {
-        VoteAnswer::Elected(e) => crate::show::election(e),
-        VoteAnswer::Refused(n) => crate::show::refused(n),
+        VoteAnswer::Elected(e) => crate::show::election(rt, e),
+        VoteAnswer::Refused(n) => crate::show::refused(rt, n),
     }
 }
 
-pub(crate) fn show_halts(s: Scan, h: Heard) {
+pub(crate) fn show_halts(rt: &impl Print, s: Scan, h: Heard) {
     let list = h.list;
     match vote::count_halts_in(s.byte(0), s.byte(1), s.byte(2), s.byte(3), list, h.count) {
-        HaltAnswer::Counted(h) => crate::show::halts(h),
-        HaltAnswer::Refused(n) => crate::show::refused(n),
+        HaltAnswer::Counted(h) => crate::show::halts(rt, h),
+        HaltAnswer::Refused(n) => crate::show::refused(rt, n),
     }
 }

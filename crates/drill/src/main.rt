@@ -3,15 +3,11 @@
 
 use sheet::SHEET;
 
-const STDOUT: i32 = 1;
-
-const STDERR: i32 = 2;
-
-fn main() {
+fn main(rt: HostRuntime) {
     let mut text = [0u8; SHEET];
     // Never refused: the text is as long as the sheet.
     sheet::write_sheet(&mut text);
-    if !io::write_all(STDOUT, &text) {
-        io::write_all(STDERR, b"drill: cannot write\n");
+    if rt.write_all(&text).is_err() {
+        let _ = eprintln!(rt; "drill: cannot write");
     }
 }

@@ -6,60 +6,103 @@
 mod output;
 mod player;
 
-use output::{STDERR, write_name};
+use output::{report_unopened, report_unread, write_name};
 use player::play_journal;
+use std::env::FillError;
+use std::fs::File;
+use std::io::{Read, Write};
+use std::rt::{Env, Files};
+use std::str;
 
-const STDIN: i32 = 0;
+// The bytes of the longest name.
+const NAME: usize = 4096;
 
-// The file of a name; negative where it cannot be opened.
-fn open(name: &[u8]) -> i32 {
-    if name.len() == 1 {
-        if name[0] == b'-' {
-            return STDIN;
-        }
+// The file of a name, where it can be opened. A name that is not UTF-8 cannot.
+fn open<R: Files>(rt: &R, name: &[u8]) -> Option<R::File> {
+    match str::from_utf8(name) {
+        Ok(path) => File::open(rt, path).ok(),
+        Err(_) => None,
     }
-    os::open_read(name)
 }
 
-fn report_unopened(name: &[u8]) {
-    io::write_all(STDERR, b"journal: cannot open ");
-    io::write_all(STDERR, name);
-    io::write_all(STDERR, b"\n");
+// Standard input is closed after its first journal: a second one cannot be read.
+fn play_stdin<I: Read + Drop>(
+    stdin: &mut Option<I>,
+    out: &mut impl Write,
+    err: &mut impl Write,
+) -> bool {
+    match stdin.take() {
+        Some(mut file) => play_journal(&mut file, out, err),
+        None => {
+            report_unread(err);
+            false
+        }
+    }
+}
+
+fn play_file<R: Files>(rt: &R, name: &[u8], out: &mut impl Write, err: &mut impl Write) -> bool {
+    match open(rt, name) {
+        Some(mut file) => write_name(out, err, name) && play_journal(&mut file, out, err),
+        None => {
+            report_unopened(err, name);
+            false
+        }
+    }
 }
 
 // Whether all of it was read and written.
-fn play_named(name: &[u8]) -> bool {
-    let file = open(name);
-    if file < 0 {
-        report_unopened(name);
-        return false;
+fn play_named<R: Files, I: Read + Drop>(
+    rt: &R,
+    stdin: &mut Option<I>,
+    name: &[u8],
+    out: &mut impl Write,
+    err: &mut impl Write,
+) -> bool {
+    if name.len() == 1 {
+        if name[0] == b'-' {
+            return write_name(out, err, name) && play_stdin(stdin, out, err);
+        }
     }
-    if !write_name(name) {
-        return false;
-    }
-    let ok = play_journal(file);
-    libc::close(file);
-    ok
+    play_file(rt, name, out, err)
 }
 
-fn play_argument(i: usize) -> bool {
-    let mut name = io::buffer();
-    let length = os::arg(i, &mut name);
-    play_named(&name[..length])
+// Whether there is an argument i, and all of it was read and written. One that is longer than any name
+// names no file.
+fn play_argument<R: Env + Files, I: Read + Drop>(
+    rt: &R,
+    stdin: &mut Option<I>,
+    i: usize,
+    out: &mut impl Write,
+    err: &mut impl Write,
+) -> bool {
+    let mut name = [0u8; NAME];
+    match rt.arg(i, &mut name) {
+        Ok(length) => play_named(rt, stdin, &name[..length], out, err),
+        Err(FillError::TooLong) => play_named(rt, stdin, b"", out, err),
+        Err(FillError::NotPresent) => false,
+    }
+}
+
+// Whether there are arguments behind the program's own name.
+fn has_arguments(rt: &impl Env) -> bool {
+    match rt.arg(1, &mut []) {
+        Err(FillError::NotPresent) => false,
+        _ => true,
+    }
 }
 
 // A failure ends it.
-fn main() {
-    let count = os::arg_count();
-    if count < 2 {
-        play_journal(STDIN);
+fn main(rt: HostRuntime) {
+    let mut out = rt.stdout();
+    let mut err = rt.stderr();
+    if !has_arguments(&rt) {
+        play_journal(&mut rt.stdin(), &mut out, &mut err);
         return;
     }
-    let mut i: usize = 1;
-    while i < count {
-        if !play_argument(i) {
+    let mut stdin = Some(rt.stdin());
+    for i in 1..usize::MAX {
+        if !play_argument(&rt, &mut stdin, i, &mut out, &mut err) {
             return;
         }
-        i += 1;
     }
 }

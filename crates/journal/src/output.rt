@@ -1,39 +1,52 @@
-// What is written: to standard output the text, to standard error what went wrong.
-const STDOUT: i32 = 1;
+// What is written: to standard output (`out`) the text, to standard error (`err`) what went wrong.
+use std::io::Write;
 
-pub(crate) const STDERR: i32 = 2;
+fn report(err: &mut impl Write, words: &[u8]) {
+    let _ = err.write_all(words);
+}
 
 // A failed write is reported once; nothing is written after it.
-fn write(bytes: &[u8]) -> bool {
-    let ok = io::write_all(STDOUT, bytes);
+fn write(out: &mut impl Write, err: &mut impl Write, bytes: &[u8]) -> bool {
+    let ok = out.write_all(bytes).is_ok();
     if !ok {
-        io::write_all(STDERR, b"journal: cannot write\n");
+        report(err, b"journal: cannot write\n");
     }
     ok
 }
 
 // The first `used` bytes of a text.
-pub(crate) fn write_first(text: &[u8], used: usize) -> bool {
+pub(crate) fn write_first(
+    out: &mut impl Write,
+    err: &mut impl Write,
+    text: &[u8],
+    used: usize,
+) -> bool {
     if text.len() < used {
         return false;
     }
     if used == 0 {
         return true;
     }
-    write(&text[0..used])
+    write(out, err, &text[0..used])
 }
 
 // The line above the journal of a named file.
-pub(crate) fn write_name(name: &[u8]) -> bool {
-    if !write(b"== ") {
+pub(crate) fn write_name(out: &mut impl Write, err: &mut impl Write, name: &[u8]) -> bool {
+    if !write(out, err, b"== ") {
         return false;
     }
-    if !write(name) {
+    if !write(out, err, name) {
         return false;
     }
-    write(b"\n")
+    write(out, err, b"\n")
 }
 
-pub(crate) fn report_unread() {
-    io::write_all(STDERR, b"journal: cannot read\n");
+pub(crate) fn report_unopened(err: &mut impl Write, name: &[u8]) {
+    report(err, b"journal: cannot open ");
+    report(err, name);
+    report(err, b"\n");
+}
+
+pub(crate) fn report_unread(err: &mut impl Write) {
+    report(err, b"journal: cannot read\n");
 }

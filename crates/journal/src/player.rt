@@ -5,6 +5,7 @@ ghost use Rattle.std.specs.Prelude.{◌≡◌, ◌+◌, ◌≤◌, length};
 use crate::output::{report_unread, write_first};
 use limits::{MAX_REPLICAS, UNIT_PLACES, UNIT_QUEUES, UNIT_VARIABLES};
 use playback::Stage;
+use std::io::{Read, Write};
 
 // The bytes that are read at a time, 1,600 records, and those of the text that is collected.
 const BLOCK: usize = 64000;
@@ -29,6 +30,8 @@ fn play_all(
     writes: &mut [u64; MAX_REPLICAS],
     lasts: &mut [u64; MAX_REPLICAS],
     text: &mut [u8; TEXT],
+    out: &mut impl Write,
+    err: &mut impl Write,
 ) -> Playing
     ensures { result.taken ≤ length block.now }
 {
@@ -49,7 +52,7 @@ fn play_all(
         );
         stage = b.stage;
         taken += b.taken;
-        ok = write_first(text, b.used);
+        ok = write_first(out, err, text, b.used);
         going = ok & (0 < b.taken);
     }
     Playing { stage, taken, ok }
@@ -71,20 +74,20 @@ pub struct Got {
 }
 
 // One read, behind the bytes that are held.
-fn read_more(file: i32, block: &mut [u8], held: usize) -> Got
-    requires { (length block.old ≡ 64000) × (held ≤ 64000) }
+fn read_more(file: &mut impl Read, block: &mut [u8], held: usize) -> Got
+    requires block_len { length block.old ≡ 64000 }
+    requires held_le { held ≤ 64000 }
     ensures { held + result.count ≤ 64000 }
 {
-    let got = libc::read(file, &mut block[held..]);
-    if got < 0 {
-        return Got {
+    match file.read(&mut block[held..]) {
+        Ok(count) => Got {
+            count,
+            failed: false,
+        },
+        Err(_) => Got {
             count: 0,
             failed: true,
-        };
-    }
-    Got {
-        count: io::count(got, &block[held..]),
-        failed: false,
+        },
     }
 }
 
@@ -106,8 +109,11 @@ fn play_read(
     writes: &mut [u64; MAX_REPLICAS],
     lasts: &mut [u64; MAX_REPLICAS],
     text: &mut [u8; TEXT],
+    out: &mut impl Write,
+    err: &mut impl Write,
 ) -> Held
-    requires { (length block.old ≡ 64000) × (filled ≤ 64000) }
+    requires block_len { length block.old ≡ 64000 }
+    requires filled_le { filled ≤ 64000 }
     ensures { result.count ≤ 64000 }
 {
     let p = play_all(
@@ -119,6 +125,8 @@ fn play_read(
         writes,
         lasts,
         text,
+        out,
+        err,
     );
     let count = playback::keep_left(block, p.taken, filled);
     let next = p.stage;
@@ -137,16 +145,23 @@ fn finish(
     variables: &[u32; UNIT_VARIABLES],
     writes: &[u64; MAX_REPLICAS],
     text: &mut [u8; TEXT],
+    out: &mut impl Write,
+    err: &mut impl Write,
 ) -> bool
-    requires { (length block.now ≡ 64000) × (held ≤ 64000) }
+    requires block_len { length block.now ≡ 64000 }
+    requires held_le { held ≤ 64000 }
 {
     let used = playback::play_end(stage, &block[0..held], variables, writes, text);
-    write_first(text, used)
+    write_first(out, err, text, used)
 }
 
 // Whether all of it was read and written. Where a read fails there are no cards, and after a refused
 // first record nothing more is read.
-pub(crate) fn play_journal(file: i32) -> bool {
+pub(crate) fn play_journal(
+    file: &mut impl Read,
+    out: &mut impl Write,
+    err: &mut impl Write,
+) -> bool {
     let mut pending = [[0u64; 4]; UNIT_PLACES];
     let mut counts = [0usize; UNIT_QUEUES];
     let mut variables = [0u32; UNIT_VARIABLES];
@@ -156,16 +171,16 @@ pub(crate) fn play_journal(file: i32) -> bool {
     let mut text = [0u8; TEXT];
     let mut stage = Stage::First;
     let mut held: usize = 0;
-    let mut reads: u64 = 0;
-    while reads < 18446744073709551615 {
-        reads += 1;
+    for _ in 0..u64::MAX {
         let got = read_more(file, &mut block, held);
         if got.failed {
-            report_unread();
+            report_unread(err);
             return false;
         }
         if got.count == 0 {
-            return finish(stage, &block, held, &variables, &writes, &mut text);
+            return finish(
+                stage, &block, held, &variables, &writes, &mut text, out, err,
+            );
         }
         let next = play_read(
             stage,
@@ -177,6 +192,8 @@ pub(crate) fn play_journal(file: i32) -> bool {
             &mut writes,
             &mut lasts,
             &mut text,
+            out,
+            err,
         );
         stage = next.stage;
         held = next.count;

@@ -1,38 +1,41 @@
-// What is written: to standard output the text, to standard error what went wrong.
-const STDOUT: i32 = 1;
+// What is written: to standard output (`out`) the text, to standard error (`err`) what went wrong.
+use std::io::Write;
 
-const STDERR: i32 = 2;
-
-pub(crate) fn report(line: &[u8]) {
-    io::write_all(STDERR, line);
+pub(crate) fn report(err: &mut impl Write, line: &[u8]) {
+    let _ = err.write_all(line);
 }
 
-fn write(bytes: &[u8]) -> bool {
-    let ok = io::write_all(STDOUT, bytes);
+fn write(out: &mut impl Write, err: &mut impl Write, bytes: &[u8]) -> bool {
+    let ok = out.write_all(bytes).is_ok();
     if !ok {
-        report(b"pieces: cannot write\n");
+        report(err, b"pieces: cannot write\n");
     }
     ok
 }
 
 // The first `used` bytes of a text.
-pub(crate) fn write_first(text: &[u8], used: usize) -> bool {
+pub(crate) fn write_first(
+    out: &mut impl Write,
+    err: &mut impl Write,
+    text: &[u8],
+    used: usize,
+) -> bool {
     if text.len() < used {
         return false;
     }
     if used == 0 {
         return true;
     }
-    write(&text[0..used])
+    write(out, err, &text[0..used])
 }
 
 // The line above a journal.
-pub(crate) fn write_name(name: &[u8]) -> bool {
-    if !write(b"== ") {
+pub(crate) fn write_name(out: &mut impl Write, err: &mut impl Write, name: &[u8]) -> bool {
+    if !write(out, err, b"== ") {
         return false;
     }
-    if !write(name) {
+    if !write(out, err, name) {
         return false;
     }
-    write(b"\n")
+    write(out, err, b"\n")
 }

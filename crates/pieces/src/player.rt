@@ -6,6 +6,7 @@ use crate::output::{report, write_first};
 use crate::tables::{TEXT, piece_size, text_room};
 use limits::{ENTRY, MAX_REPLICAS, UNIT_PLACES, UNIT_QUEUES, UNIT_VARIABLES, at_most};
 use playback::Stage;
+use std::io::{Read, Write};
 
 // The longest journal has fewer bytes than this.
 const INPUT: usize = 131072;
@@ -32,6 +33,8 @@ fn play_piece(
     writes: &mut [u64; MAX_REPLICAS],
     lasts: &mut [u64; MAX_REPLICAS],
     text: &mut [u8],
+    out: &mut impl Write,
+    err: &mut impl Write,
 ) -> Playing
     requires { length text.old ≡ 65536 }
     ensures { result.taken ≤ length left.now }
@@ -48,7 +51,7 @@ fn play_piece(
         lasts,
         &mut text[0..room],
     );
-    let ok = write_first(text, b.used);
+    let ok = write_first(out, err, text, b.used);
     let next = b.stage;
     Playing {
         stage: next,
@@ -67,7 +70,7 @@ fn is_over(stage: Stage, left: usize) -> bool {
 }
 
 // The number is that of the first call, so that each journal is cut elsewhere.
-fn play_input(input: &[u8], number: usize) -> bool {
+fn play_input(input: &[u8], number: usize, out: &mut impl Write, err: &mut impl Write) -> bool {
     let mut pending = [[0u64; 4]; UNIT_PLACES];
     let mut counts = [0usize; UNIT_QUEUES];
     let mut variables = [0u32; UNIT_VARIABLES];
@@ -88,6 +91,8 @@ fn play_input(input: &[u8], number: usize) -> bool {
             &mut writes,
             &mut lasts,
             &mut text,
+            out,
+            err,
         );
         if !p.ok {
             return false;
@@ -97,16 +102,36 @@ fn play_input(input: &[u8], number: usize) -> bool {
         call += 1;
     }
     let used = playback::play_end(stage, &input[taken..], &variables, &writes, &mut text);
-    write_first(&text, used)
+    write_first(out, err, &text, used)
+}
+
+// Reads until the input ends, a read fails or the bytes are full, and gives how many were read.
+fn read_full(file: &mut impl Read, input: &mut [u8]) -> usize
+    ensures { result ≤ length input.new }
+{
+    let mut count: usize = 0;
+    while count < input.len() {
+        match file.read(&mut input[count..]) {
+            Ok(0) => return count,
+            Ok(n) => count += n,
+            Err(_) => return count,
+        }
+    }
+    count
 }
 
 // Whether all of it was read and written.
-pub(crate) fn play_journal(file: i32, number: usize) -> bool {
+pub(crate) fn play_journal(
+    file: &mut impl Read,
+    number: usize,
+    out: &mut impl Write,
+    err: &mut impl Write,
+) -> bool {
     let mut input = [0u8; INPUT];
-    let count = io::read_full(file, &mut input);
+    let count = read_full(file, &mut input);
     if count == INPUT {
-        report(b"pieces: too long a journal\n");
+        report(err, b"pieces: too long a journal\n");
         return false;
     }
-    play_input(&input[0..count], number)
+    play_input(&input[0..count], number, out, err)
 }
