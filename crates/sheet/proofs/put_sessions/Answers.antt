@@ -9,12 +9,11 @@ pub loop-place-init : goal.loop-place-init
 loop-place-init c = (omega arith, refl, ap (put_text (page c.args.text.now 0)) lines_all)
 
 pub loop-place-preserved : goal.loop-place-preserved
-loop-place-preserved c =
-    (
-      omega arith,
-      c.put_session-used.auto.text ∙ c.loop-place.invariant.1,
-      put_next (page c.loop-place.text c.loop-place.used) c.loop-place.place (omega arith) c.put_session-used.ensures ∙ c.loop-place.invariant.2,
-    )
+loop-place-preserved c = (
+  omega arith,
+  c.put_session-used.auto.text ∙ c.loop-place.invariant.1,
+  put_next (page c.loop-place.text c.loop-place.used) c.loop-place.place (omega arith) c.put_session-used.ensures ∙ c.loop-place.invariant.2,
+)
 
 pub shape_of-text : goal.shape_of-text
 shape_of-text c = c.loop-place.invariant.1
