@@ -2,6 +2,7 @@
 use mathlib.Core.Path.{◌≡◌, refl, ◌∙◌}
 use mathlib.Core.Bool.{Bool, true, false, not, cond}
 use mathlib.Core.List.{[], ◌∷◌}
+use borrow.Author.Rules.{rules}
 use Rattle.question.specs.Question.{◌else◌, Answer, given, refused, Worked, worked, ask}
 use Rattle.record.specs.Record.{allows_variable, spares_zero, allows_value, content_questions}
 use Rattle.record.proofs.check.check_content.Goals as goal
@@ -44,7 +45,8 @@ returns-then-not-spares c =
 
 pub returns-then-not-value : goal.returns-then-not-value
 returns-then-not-value c =
-    let no : refused 22 ≡ asked (goal.at.returns-then-not-value c).After-allows_value-value = rw (c.if-not-variable.false, c.if-not-spares.false, c.if-not-value.true) in
+    let spares : c.spares_zero-spares.result ≡ true = search rules in
+    let no : refused 22 ≡ asked (goal.at.returns-then-not-value c).After-allows_value-value = rw (c.if-not-variable.false, spares, c.if-not-value.true) in
     no ∙ tests (goal.at.returns-then-not-value c).After-allows_value-value
 
 pub returns : goal.returns
