@@ -157,7 +157,7 @@ handle_batch u replica group part =
     record { state = record { store = done.state; queue = others part.queue }; sent = done.sent }
 
 -- while the group's batch is stable, it is handled. Each handled batch takes a request off or more, so as many looks as the queue has
--- requests are enough: the law `visit-settles` says that no stable batch is left
+-- requests are enough: the law `visit_settles` says that no stable batch is left
 unfoldable pub visit : Settings → ℕ → ℕ → LocalTime → ℕ → Part → Effect Part
 visit u replica group now zero part = still part
 visit u replica group now (suc looks) part =

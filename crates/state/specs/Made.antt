@@ -18,7 +18,7 @@ new_replica u number = record {
 }
 
 -- what stands beside the number of a refused making: zeros. It is no unit's replica, so it refuses every delivery, and a step of it
--- only notes the time: `blank-refuses` and `blank_Stands` (proofs/Blank.antt)
+-- only notes the time: `blank_refuses` and `blank_stands` (proofs/Blank.antt)
 abbrev pub blank_replica : Replica
 blank_replica = new_replica (record { k = 0; groups = 0; owner = 0; delta = 0 }) 0
 

@@ -1,7 +1,6 @@
 -- What stands in front, and what stays of the rest, is what stays of all.
 use Prim.Native.Nat.{◌+◌, ◌<◌}
 use mathlib.Core.Path.{◌≡◌, refl, sym, ap, ◌∙◌}
-use mathlib.Core.Logic.{⊎_elim}
 use mathlib.Core.Bool.{Bool, true, false, not}
 use mathlib.Core.List.{append-nil}
 use native.Mathlib.Omega.{arith}

@@ -1,7 +1,6 @@
 -- What was seen so far, and that what is left agrees, is that all agree.
 use Prim.Native.Nat.{◌+◌}
 use mathlib.Core.Path.{◌≡◌, refl, sym, ◌∙◌}
-use mathlib.Core.Logic.{⊎_elim}
 use mathlib.Core.Bool.{true, false, and-true}
 use native.Mathlib.Nat.{add-zero}
 use native.Mathlib.Omega.{arith}

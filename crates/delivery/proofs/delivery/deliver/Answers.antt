@@ -2,8 +2,7 @@
 use Prim.Native.Nat.{ℕ}
 use mathlib.Core.Path.{◌≡◌, refl, sym, ap, ◌∙◌}
 use native.Mathlib.Omega.{arith}
-use lib.ListN.{length, length-map}
-use borrow.Author.Rules.{rules}
+use lib.ListN.{length}
 use Rattle.record.specs.Record.{request_answer}
 use Rattle.rules.specs.Replica.{admit, deliver}
 use Rattle.laws.proofs.Accepted.{read-group, admit_admitted}

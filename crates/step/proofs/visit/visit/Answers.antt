@@ -1,6 +1,6 @@
 -- What was sent so far, and what is left of the visit sends behind it, is what the whole visit sends.
 use mathlib.Core.Path.{◌≡◌, refl, sym, ap, ◌∙◌}
-use mathlib.Core.Bool.{true, false}
+use mathlib.Core.Bool.{true}
 use native.Mathlib.Omega.{arith}
 use lib.ListN.{length}
 use Rattle.rules.specs.Replica.{Part, written, head_timestamp, batch_of, is_stable}
