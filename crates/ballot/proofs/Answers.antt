@@ -9,8 +9,8 @@ use lib.Count.{ones}
 use lib.Dec.{eqb, leb}
 use borrow.Author.Tests.{eqb-true, eqb-false, leb-true}
 use Rattle.limits.specs.Limits.{max_k}
-use Rattle.question.specs.Question.{Question, Answer, given, refused, Worked, worked, ask, next, unit_questions}
-use Rattle.question.proofs.Questions.{AllYes, all_yes_parts, ask-all_yes, ask_after, next_asked}
+use Rattle.question.specs.Question.{Question, Answer, given, refused, worked, ask, unit_questions}
+use Rattle.question.proofs.Questions.{AllYes, all_yes_parts, ask-all_yes, ask_after}
 use Rattle.question.proofs.Tests.{case, true-not-false, both, unit_facts}
 use Rattle.record.specs.declared.message.Message.{Message}
 use Rattle.rules.specs.Sets.{has, set_of}
@@ -29,19 +29,8 @@ use Rattle.ballot.proofs.Heard.{ballot-short, ballot-gave, ballot-heard, ballot-
 unit-small : (k n : ℕ) (more : List Question) → AllYes (unit_questions k n ++ more) → k ≤ max_k
 unit-small k n more all = (unit_facts k n (all_yes_parts (unit_questions k n) more all).0).k-high
 
-module _ (k n : ℕ) (b : Ballot) (alone : Answer Worked) (asked : alone ≡ ask (ballot_questions k n b) (given worked)) where
-  -- the questions asked by themselves decide as they do before the election
-  pub vote_next : next alone (elect_in k b (2 * k + 1)) ≡ vote_on k n b
-  unfolding vote_on
-  vote_next = next_asked (ballot_questions k n b) (elect_in k b (2 * k + 1)) alone asked
-
-  -- and before the count
-  pub halts_next : next alone (given (halts_by k (has b.halted))) ≡ halt_count_on k n b
-  unfolding halt_count_on
-  halts_next = next_asked (ballot_questions k n b) (given (halts_by k (has b.halted))) alone asked
-
-  pub asked-small : alone ≡ given worked → k ≤ max_k
-  asked-small e = unit-small k n _ (ask-all_yes (ballot_questions k n b) (given worked) (sym asked ∙ e))
+pub asked-small : (k n : ℕ) (b : Ballot) → given worked ≡ ask (ballot_questions k n b) (given worked) → k ≤ max_k
+asked-small k n b e = unit-small k n _ (ask-all_yes (ballot_questions k n b) (given worked) (sym e))
 
 -- ── the election ──
 
@@ -52,7 +41,7 @@ module _ (k : ℕ) (b : Ballot) where
 
   -- a replica whose value they gave
   abbrev wins : ℕ → Bool
-  wins i = has b.heard i && enough (value_of b i)
+  wins i = has b.heard.0 i && enough (value_of b i)
 
   pub elect-hit : (i : ℕ) → 0 < i → wins i ≡ true → elect_in k b i ≡ given (election_in k b (value_of b i))
   unfolding elect_in
@@ -75,7 +64,7 @@ module _ (k : ℕ) (b : Ballot) where
   unfolding elect_in
   elected zero = inr (refl, λ i lo hi. absurd (omega arith))
   elected (suc n) = case (wins (suc n))
-      (λ e. inl (value_of b (suc n), rw e, (both (has b.heard (suc n)) (enough (value_of b (suc n))) e).1))
+      (λ e. inl (value_of b (suc n), rw e, (both (has b.heard.0 (suc n)) (enough (value_of b (suc n))) e).1))
       (λ e. ⊎_elim
       (λ l. inl (l.0, rw e l.1, l.2))
       (λ r. inr (
@@ -103,26 +92,26 @@ module _ (k n : ℕ) (q : Query) (list : List Message) where
     gave_says : (v i : ℕ) → 1 ≤ i → i ≤ 2 * k + 1 → gave ballot v i ≡ says replying i v list
     gave_says v i lo hi = ballot-gave k n q list i lo (omega arith) v
 
-    heard_replies : (i : ℕ) → 1 ≤ i → i ≤ 2 * k + 1 → has ballot.heard i ≡ heard replying list i
+    heard_replies : (i : ℕ) → 1 ≤ i → i ≤ 2 * k + 1 → has ballot.heard.0 i ≡ heard replying list i
     heard_replies i lo hi = ballot-heard k n q list i lo (omega arith)
 
-    halted-halts : (i : ℕ) → 1 ≤ i → i ≤ 2 * k + 1 → has ballot.halted i ≡ heard halting list i
+    halted-halts : (i : ℕ) → 1 ≤ i → i ≤ 2 * k + 1 → has ballot.halted.0 i ≡ heard halting list i
     halted-halts i lo hi = ballot-halted k n q list i lo (omega arith)
 
     ballot_election : (v : ℕ) → election_in k ballot v ≡ election_of k replying list v
-    ballot_election v = election_same k v (has ballot.heard) (gave ballot v) (heard replying list) (λ i. says replying i v list) heard_replies (gave_says v)
+    ballot_election v = election_same k v (has ballot.heard.0) (gave ballot v) (heard replying list) (λ i. says replying i v list) heard_replies (gave_says v)
 
     ballot-support : (v : ℕ) → ones (set_of (gave ballot v) (2 * k + 1)) ≡ support k replying list v
     ballot-support v = ones_set (gave ballot v) (2 * k + 1) ∙ tally_same (gave ballot v) (λ i. says replying i v list) (2 * k + 1) (gave_says v)
 
-    ballot-halts : halts_by k (has ballot.halted) ≡ halts_by k (heard halting list)
-    ballot-halts = rw (set_same (has ballot.halted) (heard halting list) (2 * k + 1) halted-halts)
+    ballot-halts : halts_by k (has ballot.halted.0) ≡ halts_by k (heard halting list)
+    ballot-halts = rw (set_same (has ballot.halted.0) (heard halting list) (2 * k + 1) halted-halts)
 
     -- where the list gives a value k + 1, one of its replicas wins
     winner : (v : ℕ) → leb (k + 1) (support k replying list v) ≡ true → (i : ℕ) × (1 ≤ i) × (i ≤ 2 * k + 1) × (wins k ballot i ≡ true)
     winner v e =
         let a = tally-hit (λ i. says replying i v list) (2 * k + 1) (omega (arith, leb-true (k + 1) (support k replying list v) e)) in
-        let g = both (has ballot.heard a.0) (eqb (value_of ballot a.0) v) (gave_says v a.0 a.1 a.2 ∙ a.3) in
+        let g = both (has ballot.heard.0 a.0) (eqb (value_of ballot a.0) v) (gave_says v a.0 a.1 a.2 ∙ a.3) in
         (a.0, a.1, a.2, rw (g.0, eqb-true (value_of ballot a.0) v g.1, ballot-support v, e))
 
     ballot_elects : elect_in k ballot (2 * k + 1) ≡ elect k replying list list
@@ -145,4 +134,4 @@ module _ (k n : ℕ) (q : Query) (list : List Message) where
   -- and so is the halt count
   pub halt_count_on_lem : halt_count_on k n ballot ≡ halt_count k n q.group q.process list
   unfolding halt_count_on halt_count
-  halt_count_on_lem = ballot-asked (given (halts_by k (has ballot.halted))) (given (halts_by k (heard halting list))) (λ small. ap given (ballot-halts small))
+  halt_count_on_lem = ballot-asked (given (halts_by k (has ballot.halted.0))) (given (halts_by k (heard halting list))) (λ small. ap given (ballot-halts small))

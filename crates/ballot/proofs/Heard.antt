@@ -28,7 +28,7 @@ Sized b = last_replica < length b.values
 
 -- whether the value of a replica is the given one, where a reply was heard; the other answer where none was
 abbrev noted : Ballot → ℕ → ℕ → Bool → Bool
-noted b value replica other = cond (has b.heard replica) (eqb (value_of b replica) value) other
+noted b value replica other = cond (has b.heard.0 replica) (eqb (value_of b replica) value) other
 
 -- what it is to lack a number: it is a replica's, and the set has it not
 pub lacks_parts : (set replica : ℕ) → lacks set replica ≡ true → (is_replica replica ≡ true) × (has set replica ≡ false)
@@ -81,15 +81,15 @@ module _ (k n : ℕ) (q : Query) where
 
     later-reply : is_first_reply k n q b m ≡ false → (v : ℕ) (other : Bool)
         → noted b v i other ≡ noted b v i (cond (replying m && eqb m.replica i) (eqb m.value v) other)
-    later-reply e v other = case (has b.heard i) (λ h. rw h) (λ h. rw (h, not_noted b.heard (replying m) e h))
+    later-reply e v other = case (has b.heard.0 i) (λ h. rw h) (λ h. rw (h, not_noted b.heard.0 (replying m) e h))
 
     first_reply : Sized b → is_first_reply k n q b m ≡ true → (v : ℕ) (other : Bool)
         → noted (note_reply b m.replica m.value) v i other ≡ noted b v i (cond (replying m && eqb m.replica i) (eqb m.value v) other)
     first_reply sized e v other =
-        let a = both (replying m) (lacks b.heard m.replica) e in
-        let free = lacks_parts b.heard m.replica a.1 in
+        let a = both (replying m) (lacks b.heard.0 m.replica) e in
+        let free = lacks_parts b.heard.0 m.replica a.1 in
         let range = within-true 1 last_replica m.replica free.0 in
-        rw (a.0, has_with b.heard m.replica i range.0) (case (eqb m.replica i)
+        rw (a.0, has_with b.heard.0 m.replica i range.0) (case (eqb m.replica i)
         (λ f.
         let g = eqb-true m.replica i f in
         rw (f, ← g, free.1, get_or-set_same b.values m.replica m.value 0 (omega (arith, range.1))))
@@ -110,18 +110,18 @@ module _ (k n : ℕ) (q : Query) where
         (λ e. rw e (case (has set i) (λ h. rw h) (λ h. rw (h, not_noted set counts e h))))
 
     -- who replied, and who sent a halt
-    heard-replied : has (hear k n q b m).heard i ≡ has b.heard i || (replying m && eqb m.replica i)
-    heard-replied = ap (λ (set : ℕ). has set i) taken ∙ noted-has b.heard (replying m)
+    heard-replied : has (hear k n q b m).heard.0 i ≡ has b.heard.0 i || (replying m && eqb m.replica i)
+    heard-replied = ap (λ (set : ℕ). has set i) taken ∙ noted-has b.heard.0 (replying m)
       where
-        taken : (hear k n q b m).heard ≡ cond (is_first_reply k n q b m) (with b.heard m.replica) b.heard
-        taken = heard_cases b m (λ c. c.heard ≡ cond (is_first_reply k n q b m) (with b.heard m.replica) b.heard) (λ e. rw e) (λ e d. rw e) (λ e d. rw e)
+        taken : (hear k n q b m).heard.0 ≡ cond (is_first_reply k n q b m) (with b.heard.0 m.replica) b.heard.0
+        taken = heard_cases b m (λ c. c.heard.0 ≡ cond (is_first_reply k n q b m) (with b.heard.0 m.replica) b.heard.0) (λ e. rw e) (λ e d. rw e) (λ e d. rw e)
 
-    heard-halted : has (hear k n q b m).halted i ≡ has b.halted i || (halting m && eqb m.replica i)
-    heard-halted = ap (λ (set : ℕ). has set i) taken ∙ noted-has b.halted (halting m)
+    heard-halted : has (hear k n q b m).halted.0 i ≡ has b.halted.0 i || (halting m && eqb m.replica i)
+    heard-halted = ap (λ (set : ℕ). has set i) taken ∙ noted-has b.halted.0 (halting m)
       where
-        taken : (hear k n q b m).halted ≡ cond (is_first_halt k n q b m) (with b.halted m.replica) b.halted
-        taken = heard_cases b m (λ c. c.halted ≡ cond (is_first_halt k n q b m) (with b.halted m.replica) b.halted)
-            (λ e. rw (reply_no_halt m (both (replying m) (lacks b.heard m.replica) e).0)) (λ e d. rw d) (λ e d. rw d)
+        taken : (hear k n q b m).halted.0 ≡ cond (is_first_halt k n q b m) (with b.halted.0 m.replica) b.halted.0
+        taken = heard_cases b m (λ c. c.halted.0 ≡ cond (is_first_halt k n q b m) (with b.halted.0 m.replica) b.halted.0)
+            (λ e. rw (reply_no_halt m (both (replying m) (lacks b.heard.0 m.replica) e).0)) (λ e d. rw d) (λ e d. rw d)
 
   -- ── message after message ──
 
@@ -176,16 +176,16 @@ module _ (k n : ℕ) (q : Query) where
       ballot-gave v = gave_noted (ballot_of k n q list) ∙ all_noted i low high fresh (omega arith) list v ∙ new_noted
         where
           gave_noted : (b : Ballot) → gave b v i ≡ noted b v i false
-          gave_noted b = case (has b.heard i) (λ e. rw e) (λ e. rw e)
+          gave_noted b = case (has b.heard.0 i) (λ e. rw e) (λ e. rw e)
 
           new_noted : noted fresh v i (says replying i v list) ≡ says replying i v list
           new_noted = rw (has_none i)
 
       -- a replica is heard of which a reply that counts came, and has halted of which a halt that counts came
-      pub ballot-heard : has (ballot_of k n q list).heard i ≡ heard replying list i
+      pub ballot-heard : has (ballot_of k n q list).heard.0 i ≡ heard replying list i
       unfolding new_ballot
-      ballot-heard = all_has i low high (λ b. b.heard) replying (heard-replied i low high) fresh list ∙ rw (has_none i)
+      ballot-heard = all_has i low high (λ b. b.heard.0) replying (heard-replied i low high) fresh list ∙ rw (has_none i)
 
-      pub ballot-halted : has (ballot_of k n q list).halted i ≡ heard halting list i
+      pub ballot-halted : has (ballot_of k n q list).halted.0 i ≡ heard halting list i
       unfolding new_ballot
-      ballot-halted = all_has i low high (λ b. b.halted) halting (heard-halted i low high) fresh list ∙ rw (has_none i)
+      ballot-halted = all_has i low high (λ b. b.halted.0) halting (heard-halted i low high) fresh list ∙ rw (has_none i)

@@ -35,23 +35,23 @@ halt_query group process = record { group = group; process = process; variable =
 
 -- the ballot of a list of the given length, with nothing heard
 unfoldable pub new_ballot : ℕ → Ballot
-new_ballot length = record { values = replicate (last_replica + 1) 0; heard = 0; halted = 0; short = leb length max_list }
+new_ballot length = record { values = replicate (last_replica + 1) 0; heard = record { 0 = 0 }; halted = record { 0 = 0 }; short = leb length max_list }
 
 -- a reply of a replica with a value, noted
 abbrev pub note_reply : Ballot → ℕ → ℕ → Ballot
-note_reply b replica value = record { values = set b.values replica value; heard = with b.heard replica; halted = b.halted; short = b.short }
+note_reply b replica value = record b { values = set b.values replica value; heard = record { 0 = with b.heard.0 replica } }
 
 -- a halt of a replica, noted
 abbrev pub note_halt : Ballot → ℕ → Ballot
-note_halt b replica = record { values = b.values; heard = b.heard; halted = with b.halted replica; short = b.short }
+note_halt b replica = record b { halted = record { 0 = with b.halted.0 replica } }
 
 -- a reply that counts, the first of its replica. A number that no replica has is none's
 abbrev pub is_first_reply : ℕ → ℕ → Query → Ballot → Message → Bool
-is_first_reply k n q b m = counts_for k n q m && lacks b.heard m.replica
+is_first_reply k n q b m = counts_for k n q m && lacks b.heard.0 m.replica
 
 -- a halt that counts, the first of its replica
 abbrev pub is_first_halt : ℕ → ℕ → Query → Ballot → Message → Bool
-is_first_halt k n q b m = counts_as_halt k n q.group q.process m && lacks b.halted m.replica
+is_first_halt k n q b m = counts_as_halt k n q.group q.process m && lacks b.halted.0 m.replica
 
 -- a message: these are noted, and all else changes nothing
 unfoldable pub hear : ℕ → ℕ → Query → Ballot → Message → Ballot
@@ -75,18 +75,18 @@ value_of b replica = get_or b.values replica 0
 
 -- whether a replica was heard to give the value
 abbrev pub gave : Ballot → ℕ → ℕ → Bool
-gave b value replica = has b.heard replica && eqb (value_of b replica) value
+gave b value replica = has b.heard.0 replica && eqb (value_of b replica) value
 
 -- the unit's replicas by what they gave
 abbrev pub election_in : ℕ → Ballot → ℕ → Election
-election_in k b value = election_by k value (has b.heard) (gave b value)
+election_in k b value = election_by k value (has b.heard.0) (gave b value)
 
 -- the value of a replica up to the given one that at least k + 1 of the unit's replicas gave
 unfoldable pub elect_in : ℕ → Ballot → ℕ → Answer Election
 elect_in k b zero = refused 17
 elect_in k b (suc i) =
     let e = election_in k b (value_of b (suc i)) in
-    cond (has b.heard (suc i) && leb (k + 1) (ones e.agreed)) (given e) (elect_in k b i)
+    cond (has b.heard.0 (suc i) && leb (k + 1) (ones e.agreed)) (given e) (elect_in k b i)
 
 -- ── what is answered ──
 
@@ -100,4 +100,4 @@ vote_on k n b = ask (ballot_questions k n b) (elect_in k b (2 * k + 1))
 
 -- the halt count
 unfoldable pub halt_count_on : ℕ → ℕ → Ballot → Answer HaltCount
-halt_count_on k n b = ask (ballot_questions k n b) (given (halts_by k (has b.halted)))
+halt_count_on k n b = ask (ballot_questions k n b) (given (halts_by k (has b.halted.0)))

@@ -4,7 +4,7 @@ ghost use Rattle.rules.specs.Vote.{answers, halts_for};
 ghost use Rattle.ballot.specs.Sets.{last_replica};
 ghost use Rattle.ballot.specs.Ballot.{message_of, new_ballot, note_reply, note_halt, hear};
 
-use crate::sets::{LAST_REPLICA, lacks, with};
+use crate::sets::{LAST_REPLICA, Replicas};
 use limits::MAX_LIST;
 use record::{HALT, Message, REPLY, Timestamp};
 use rules::Query;
@@ -13,35 +13,35 @@ use rules::Query;
 // two loads that do not overlap; those of 7 overlap, and wait for each other.
 const VALUES: usize = LAST_REPLICA + 1;
 
+// A set beside the values and not an Option for each: a flag noted beside its value made the next copy of
+// the ballot wait (docs/DECISIONS.md).
 #[derive(Clone, Copy)]
 pub struct Ballot {
     // The value of each replica's first counting reply, at the index that is its number.
     pub(crate) values: [u32; VALUES],
-    // Sets of replicas (src/sets.rt): whose counting reply came, and whose counting halt.
-    pub(crate) heard: u8,
-    pub(crate) halted: u8,
+    // Whose counting reply came, and whose counting halt.
+    pub(crate) heard: Replicas,
+    pub(crate) halted: Replicas,
     // Question 16: the list is no longer than it may be.
     pub(crate) short: bool,
 }
 
-// The reply asked for: it matches all four.
+// The reply asked for: it matches all four. A query of the message's fields, to compare with, is as long.
 fn answers(q: Query, m: Message) -> bool
     ensures { result ≡ answers q m }
 {
-    let sent = m.timestamp;
-    let asked = q.timestamp;
     (m.kind == REPLY)
         & (m.group == q.group)
         & (m.process == q.process)
         & (m.variable == q.variable)
-        & (sent.0 == asked.0)
+        & (m.timestamp == q.timestamp)
 }
 
 // A halt that matches group and process.
-fn halts_for(group: u8, process: u8, m: Message) -> bool
-    ensures { result ≡ halts_for group process m }
+fn halts_for(q: Query, m: Message) -> bool
+    ensures { result ≡ halts_for q.group q.process m }
 {
-    (m.kind == HALT) & (m.group == group) & (m.process == process)
+    (m.kind == HALT) & (m.group == q.group) & (m.process == q.process)
 }
 
 impl Ballot {
@@ -51,20 +51,21 @@ impl Ballot {
     {
         Ballot {
             values: [0u32; VALUES],
-            heard: 0,
-            halted: 0,
+            heard: Replicas(0),
+            halted: Replicas(0),
             short: length <= MAX_LIST,
         }
     }
 
-    // The first reply of a replica, and its first halt.
+    // The first reply of a replica, and its first halt. With struct update each message copies the values: a
+    // vote takes a fifth more time (docs/TIMING.md).
     fn note_reply(self, replica: u8, value: u32) -> Ballot
         requires { (1 ≤ replica) × (replica ≤ last_replica) }
         ensures { result ≡ note_reply self replica value }
     {
         let i = replica as usize;
         let mut next = self;
-        next.heard = with(self.heard, i);
+        next.heard = self.heard.with(i);
         next.values[i] = value;
         next
     }
@@ -74,11 +75,12 @@ impl Ballot {
         ensures { result ≡ note_halt self replica }
     {
         let mut next = self;
-        next.halted = with(self.halted, replica as usize);
+        next.halted = self.halted.with(replica as usize);
         next
     }
 
-    // One message, handed over by its fields.
+    // One message, handed over by its fields, as document 01 names the tally; k and N are two numbers, as in
+    // the definition.
     pub fn hear(
         self,
         k: u8,
@@ -105,10 +107,10 @@ impl Ballot {
         };
         let passes = m.passes(k, n);
         // What changes nothing goes to the end, where the ballot is not copied.
-        if passes & answers(q, m) & lacks(self.heard, replica) {
+        if passes & answers(q, m) & self.heard.lacks(replica) {
             return self.note_reply(replica, value);
         }
-        if passes & halts_for(q.group, q.process, m) & lacks(self.halted, replica) {
+        if passes & halts_for(q, m) & self.halted.lacks(replica) {
             return self.note_halt(replica);
         }
         self

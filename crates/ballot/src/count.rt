@@ -1,42 +1,28 @@
 // What a ballot says.
 ghost use Rattle.std.specs.Prelude.{◌+◌, ◌*◌, ◌≤◌, ◌≡◌};
 ghost use Rattle.limits.specs.Limits.{max_k};
-ghost use Rattle.question.specs.Question.{given, worked, ask, outcome};
+ghost use Rattle.question.specs.Question.{given, worked, ask};
+ghost use Rattle.question.specs.Refusals.{answer_of};
 ghost use Rattle.rules.specs.Sets.{has, set_of};
 ghost use Rattle.rules.specs.Vote.{halts_by};
-ghost use Rattle.ballot.specs.Answers.{vote_answer, halt_answer};
 ghost use Rattle.ballot.specs.Ballot.{gave, election_in, elect_in, ballot_questions, vote_on, halt_count_on};
 
 use crate::ballot::Ballot;
-use crate::sets::{has, replicas_of, with};
-use question::{Outcome, check_unit};
+use crate::sets::Replicas;
+use question::{Refusal, ask, check_unit};
 use rules::{Election, HaltCount};
 
-#[derive(Clone, Copy)]
-pub enum VoteAnswer {
-    Elected(Election),
-    Refused(u8),
-}
-
-#[derive(Clone, Copy)]
-pub enum HaltAnswer {
-    Counted(HaltCount),
-    Refused(u8),
-}
-
+// k is a unit's once question 1 was asked, in `check`: a type for that would be asked for in each line here.
 impl Ballot {
     // Those of the unit's replicas that gave a value.
-    fn agreed(self, k: u8, value: u32) -> u8
+    fn agreed(self, k: u8, value: u32) -> Replicas
         requires { k ≤ max_k }
-        ensures { result ≡ set_of (gave self value) (2 * k + 1) }
+        ensures { result.0 ≡ set_of (gave self value) (2 * k + 1) }
     {
-        let last = 2 * k as usize + 1;
-        let mut set: u8 = 0;
-        let mut i: usize = 0;
-        while i < last {
-            i += 1;
-            if has(self.heard, i) & (self.values[i] == value) {
-                set = with(set, i);
+        let mut set = Replicas(0);
+        for i in 1..=2 * k as usize + 1 {
+            if self.heard.has(i) & (self.values[i] == value) {
+                set = set.with(i);
             }
         }
         set
@@ -47,9 +33,9 @@ impl Ballot {
         requires { k ≤ max_k }
         ensures { result ≡ election_in k self value }
     {
-        let unit = replicas_of(k);
-        let heard = self.heard & unit;
-        let agreed = self.agreed(k, value);
+        let unit = Replicas::of_unit(k).0;
+        let heard = self.heard.0 & unit;
+        let agreed = self.agreed(k, value).0;
         Election {
             value,
             agreed,
@@ -59,30 +45,27 @@ impl Ballot {
     }
 
     // The value that at least k + 1 replicas gave. No two values have so many: any order finds it.
-    fn elect(self, k: u8) -> VoteAnswer
+    fn elect(self, k: u8) -> Result<Election, Refusal>
         requires { k ≤ max_k }
-        ensures { vote_answer result ≡ elect_in k self (2 * k + 1) }
+        ensures { answer_of result ≡ elect_in k self (2 * k + 1) }
     {
         let enough = k as u32 + 1;
-        let mut i = 2 * k as usize + 1;
-        while 0 < i {
-            let value = self.values[i];
-            let e = self.election(k, value);
-            if has(self.heard, i) & (enough <= u8::count_ones(e.agreed)) {
-                return VoteAnswer::Elected(e);
+        for i in (1..=2 * k as usize + 1).rev() {
+            let e = self.election(k, self.values[i]);
+            if self.heard.has(i) & (enough <= e.agreed.count_ones()) {
+                return Ok(e);
             }
-            i -= 1;
         }
-        VoteAnswer::Refused(17)
+        Err(Refusal::Quorum)
     }
 
     // The unit's replicas that sent a halt.
     fn halts(self, k: u8) -> HaltCount
         requires { k ≤ max_k }
-        ensures { result ≡ halts_by k (has self.halted) }
+        ensures { result ≡ halts_by k (has self.halted.0) }
     {
-        let senders = self.halted & replicas_of(k);
-        let size = u8::count_ones(senders) as u8;
+        let senders = self.halted.0 & Replicas::of_unit(k).0;
+        let size = senders.count_ones() as u8;
         HaltCount {
             senders,
             size,
@@ -91,27 +74,24 @@ impl Ballot {
     }
 
     // Questions 1, 2 and 16.
-    fn check(self, k: u8, n: u8) -> Outcome
-        ensures { outcome result ≡ ask (ballot_questions k n self) (given worked) }
+    fn check(self, k: u8, n: u8) -> Result<(), Refusal>
+        ensures { answer_of result ≡ ask (ballot_questions k n self) (given worked) }
     {
-        check_unit(k, n).ask(self.short, 16)
+        check_unit(k, n)?;
+        ask(self.short, Refusal::List)
     }
 
-    pub fn answer_vote(self, k: u8, n: u8) -> VoteAnswer
-        ensures { vote_answer result ≡ vote_on k n self }
+    pub fn answer_vote(self, k: u8, n: u8) -> Result<Election, Refusal>
+        ensures { answer_of result ≡ vote_on k n self }
     {
-        match self.check(k, n) {
-            Outcome::Done => self.elect(k),
-            Outcome::Refused(number) => VoteAnswer::Refused(number),
-        }
+        self.check(k, n)?;
+        self.elect(k)
     }
 
-    pub fn answer_halts(self, k: u8, n: u8) -> HaltAnswer
-        ensures { halt_answer result ≡ halt_count_on k n self }
+    pub fn answer_halts(self, k: u8, n: u8) -> Result<HaltCount, Refusal>
+        ensures { answer_of result ≡ halt_count_on k n self }
     {
-        match self.check(k, n) {
-            Outcome::Done => HaltAnswer::Counted(self.halts(k)),
-            Outcome::Refused(number) => HaltAnswer::Refused(number),
-        }
+        self.check(k, n)?;
+        Ok(self.halts(k))
     }
 }

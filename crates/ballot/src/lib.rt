@@ -7,4 +7,3 @@ mod count;
 mod sets;
 
 pub use ballot::Ballot;
-pub use count::{HaltAnswer, VoteAnswer};

@@ -8,40 +8,11 @@ use lib.Dec.{eqb, ltb}
 use lib.ListN.{length, get_or, set, replicate, get_or-replicate, length-replicate, get_or-eq_default}
 use lib.Seq.{get_or-set_same, get_or-set_other}
 use borrow.Author.Tests.{eqb-true, eqb-false, eq-eqb, ltb-true, ltb-false}
-use Rattle.layout.specs.declared.clock.Timestamp.{Timestamp}
 use Rattle.record.specs.declared.request.Request.{Request}
 use Rattle.rules.specs.Lists.{every, some}
-use Rattle.record.specs.Kind.{is_read, is_write, same_write}
-use Rattle.rules.specs.Batch.{all_reads, all_same, all_senders_differ, unanimous, first_of}
-use Rattle.rules.specs.Replica.{stamped}
-use Rattle.rules.specs.declared.Pending.{Pending}
-use Rattle.question.proofs.Tests.{case, true-not-false}
-use Rattle.batch.specs.Head.{requests_at}
-
-module _ (t : Timestamp) (p : Pending) (rest : List Pending) where
-  abbrev mine : Bool
-  mine = stamped t p.request
-
-  abbrev other : Bool
-  other = mine && not (is_read p.request)
-
-  -- a request of the batch that is no read ends the look; any other is passed
-  pub reads_end : other ≡ true → all_reads (requests_at t (p ∷ rest)) ≡ false
-  reads_end e = case mine
-      (λ m. case (is_read p.request) (λ r. true-not-false other e (rw (m, r))) (λ r. rw (m, r)))
-      (λ m. true-not-false other e (rw m))
-
-  pub reads_pass : other ≡ false → all_reads (requests_at t (p ∷ rest)) ≡ all_reads (requests_at t rest)
-  reads_pass e = case mine
-      (λ m. case (is_read p.request) (λ r. rw (m, r)) (λ r. true-not-false other (rw (m, r)) e))
-      (λ m. rw m)
-
-  -- a request of another batch makes no difference
-  pub batch_pass : mine ≡ false → requests_at t (p ∷ rest) ≡ requests_at t rest
-  batch_pass e = rw e
-
-  pub size_step : (size : ℕ) → mine ≡ true → size + 1 + length (requests_at t rest) ≡ size + length (requests_at t (p ∷ rest))
-  size_step size e = rw e (omega arith)
+use Rattle.record.specs.Kind.{is_write, same_write}
+use Rattle.rules.specs.Batch.{all_same, all_senders_differ, unanimous, first_of}
+use Rattle.question.proofs.Tests.{case}
 
 -- ── unanimity ──
 
@@ -69,22 +40,17 @@ module _ (first : Request) where
       let other = get_or-set_other seen s q.process true false (λ i. eqb-false s q.process e (sym i)) in
       rw (e, other, seen_more seen s batch h) (sym (and_assoc (agrees seen q) rest (not there))))
 
-  module _ (t : Timestamp) (p : Pending) (rest : List Pending) (seen : List Bool) (room : p.request.process < length seen) where
-    abbrev was : Bool
-    was = get_or seen p.request.process false
-
-    -- one more request of the batch: from now on its sender is seen
-    pub agree-step : (same : Bool) → stamped t p.request ≡ true
-        → (same && ((is_write p.request && same_write first p.request) && not was)) && agree (set seen p.request.process true) (requests_at t rest)
-        ≡ same && agree seen (requests_at t (p ∷ rest))
-    agree-step same e =
-        let batch = requests_at t rest in
-        let d = all_senders_differ batch in
-        let f = not (some (λ q. eqb p.request.process q.process) batch) in
-        rw (e, seen_more seen p.request.process batch room) (shuffle same (agrees seen p.request) (every (agrees seen) batch) f d)
-      where
-        shuffle : (a b c d e : Bool) → (a && b) && ((c && d) && e) ≡ a && ((b && c) && (d && e))
-        shuffle a b c d e = simp and_assoc
+  -- one more request of the batch: from now on its sender is seen
+  pub agree-step : (seen : List Bool) (same : Bool) (q : Request) (batch : List Request) → q.process < length seen
+      → (same && ((is_write q && same_write first q) && not (get_or seen q.process false))) && agree (set seen q.process true) batch
+      ≡ same && agree seen (q ∷ batch)
+  agree-step seen same q batch room =
+      let d = all_senders_differ batch in
+      let f = not (some (λ r. eqb q.process r.process) batch) in
+      rw (seen_more seen q.process batch room) (shuffle same (agrees seen q) (every (agrees seen) batch) f d)
+    where
+      shuffle : (a b c d e : Bool) → (a && b) && ((c && d) && e) ≡ a && ((b && c) && (d && e))
+      shuffle a b c d e = simp and_assoc
 
 -- with no sender seen, any is a new one
 unseen : (q : Request) → get_or (replicate 256 false) q.process false ≡ false

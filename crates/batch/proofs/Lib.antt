@@ -1,3 +1,3 @@
-pub mod Compact
+pub mod Lists
 pub mod Stable
 pub mod Agree

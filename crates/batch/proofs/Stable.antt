@@ -4,6 +4,7 @@ use Prim.Native.Nat.{ℕ, ◌+◌, min}
 use mathlib.Core.Path.{◌≡◌, refl, sym, ap, ◌∙◌}
 use mathlib.Core.Bool.{Bool, true, false, ◌&&◌, ◌||◌, or_assoc, or_comm, or-false, and-or_distrib_left}
 use mathlib.Core.List.{List, [], ◌∷◌}
+use Rattle.std.specs.Prelude.{Option, Some, None, fold}
 use native.Mathlib.Omega.{arith}
 use lib.Dec.{eqb, ltb}
 use borrow.Author.Tests.{ltb-true, ltb-false, lt-ltb, le-ltb, eq-eqb, ne_eqb}
@@ -15,9 +16,8 @@ use Rattle.rules.specs.Replica.{stamped, lowest, requests_of, head_timestamp, ba
 use Rattle.rules.specs.declared.Pending.{Pending}
 use Rattle.question.proofs.Tests.{case}
 use Rattle.laws.proofs.Least.{lowest_start}
-use Rattle.batch.specs.Head.{head_from, head_in, is_late, where_late}
+use Rattle.batch.specs.Head.{at, meet, head_in, is_late, where_late}
 use Rattle.batch.specs.declared.pending.Head.{Head}
-use Rattle.batch.specs.declared.pending.Head.TheVariants.{Nothing, At}
 
 -- ── the least timestamp, from either end ──
 
@@ -28,9 +28,6 @@ lowest_swap t u (r ∷ l) = omega (arith, lowest_swap t u l)
 some_keep : {A : Type 0} (p q : A → Bool) (l : List A) → some q (keep p l) ≡ some (λ x. p x && q x) l
 some_keep p q [] = refl
 some_keep p q (x ∷ l) = case (p x) (λ e. rw (e, some_keep p q l)) (λ e. rw (e, some_keep p q l))
-
-nothing_at : {t : Timestamp} {first : LocalTime} → Nothing ≡ At t first → ⊥
-nothing_at e = let z : ◌≡◌ {A = ℕ} 0 1 = cc in omega arith
 
 module _ (delta : ℕ) (now : LocalTime) where
   abbrev late : LocalTime → Bool
@@ -47,12 +44,12 @@ module _ (delta : ℕ) (now : LocalTime) where
       (λ f. rw (e, f) (le-ltb (min a.0 b.0 + delta) now.0
       (omega (arith, ltb-false (a.0 + delta) now.0 e, ltb-false (b.0 + delta) now.0 f)))))
 
-  late-earliest : (at : LocalTime) (l : List Pending) → late (earliest at l) ≡ late at || some (λ p. late p.arrival) l
-  late-earliest at [] = sym (or-false (late at))
-  late-earliest at (p ∷ l) =
+  late-earliest : (a : LocalTime) (l : List Pending) → late (earliest a l) ≡ late a || some (λ p. late p.arrival) l
+  late-earliest a [] = sym (or-false (late a))
+  late-earliest a (p ∷ l) =
       let rest = some (λ q. late q.arrival) l in
-      rw (late-earlier p.arrival (earliest at l), late-earliest at l, ← or_assoc (late p.arrival) (late at) rest, or_comm (late p.arrival) (late at))
-      (or_assoc (late at) (late p.arrival) rest)
+      rw (late-earlier p.arrival (earliest a l), late-earliest a l, ← or_assoc (late p.arrival) (late a) rest, or_comm (late p.arrival) (late a))
+      (or_assoc (late a) (late p.arrival) rest)
 
   stable-late : (l : List Pending) → is_stable delta now l ≡ some (λ p. late p.arrival) l
   stable-late [] = refl
@@ -61,13 +58,13 @@ module _ (delta : ℕ) (now : LocalTime) where
   -- ── the head ──
 
   -- a head at a timestamp, whose first arrival is late or not
-  record Found (h : Head) (t : Timestamp) (b : Bool) : Type 0 where
+  record Found (h : Option Head) (t : Timestamp) (b : Bool) : Type 0 where
     first : LocalTime
-    is : h ≡ At t first
+    is : h ≡ Some (at t first)
     lateness : late first ≡ b
 
-  found_as : {h : Head} {t u : Timestamp} {b d : Bool} → t.0 ≡ u.0 → b ≡ d → Found h t b → Found h u d
-  found_as e i x = record { first = x.first; is = x.is ∙ ap (λ (n : ℕ). At (record { 0 = n }) x.first) e; lateness = x.lateness ∙ i }
+  found_as : {h : Option Head} {t u : Timestamp} {b d : Bool} → t.0 ≡ u.0 → b ≡ d → Found h t b → Found h u d
+  found_as e i x = record { first = x.first; is = x.is ∙ ap (λ (n : ℕ). Some (at (record { 0 = n }) x.first)) e; lateness = x.lateness ∙ i }
 
   -- some request with the timestamp is late
   abbrev some_late : Timestamp → List Pending → Bool
@@ -78,7 +75,7 @@ module _ (delta : ℕ) (now : LocalTime) where
   joined t first l u = eqb t.0 u.0 && late first || some_late u l
 
   -- what a head and the requests of a list come to
-  abbrev Joined : Timestamp → LocalTime → List Pending → Head → Type 0
+  abbrev Joined : Timestamp → LocalTime → List Pending → Option Head → Type 0
   Joined t first l h = let u = lowest t (requests_of l) in Found h u (joined t first l u)
 
   module _ (t : Timestamp) (first : LocalTime) (p : Pending) (l : List Pending) where
@@ -92,19 +89,19 @@ module _ (delta : ℕ) (now : LocalTime) where
     both = record { 0 = min q.0 (lowest t rest).0 }
 
     -- one more request, by its timestamp
-    sooner : ltb q.0 t.0 ≡ true → {h : Head} → Joined q p.arrival l h → Joined t first (p ∷ l) h
+    sooner : ltb q.0 t.0 ≡ true → {h : Option Head} → Joined q p.arrival l h → Joined t first (p ∷ l) h
     sooner a x =
         let e : (lowest q rest).0 ≡ both.0 = omega (arith, lowest_swap q t rest, lowest_start q rest, ltb-true q.0 t.0 a) in
         let no = ne_eqb t.0 both.0 (λ i. omega (arith, ltb-true q.0 t.0 a)) in
         found_as e (ap (λ (n : ℕ). joined q p.arrival l (record { 0 = n })) e ∙ rw no) x
 
-    later : ltb t.0 q.0 ≡ true → {h : Head} → Joined t first l h → Joined t first (p ∷ l) h
+    later : ltb t.0 q.0 ≡ true → {h : Option Head} → Joined t first l h → Joined t first (p ∷ l) h
     later b x =
         let e : (lowest t rest).0 ≡ both.0 = omega (arith, lowest_start t rest, ltb-true t.0 q.0 b) in
         let no = ne_eqb q.0 both.0 (λ i. omega (arith, lowest_start t rest, ltb-true t.0 q.0 b)) in
         found_as e (ap (λ (n : ℕ). joined t first l (record { 0 = n })) e ∙ rw no) x
 
-    same : q.0 ≡ t.0 → {h : Head} → Joined t (earlier first p.arrival) l h → Joined t first (p ∷ l) h
+    same : q.0 ≡ t.0 → {h : Option Head} → Joined t (earlier first p.arrival) l h → Joined t first (p ∷ l) h
     same i x =
         let e : (lowest t rest).0 ≡ both.0 = omega (arith, lowest_start t rest) in
         let here = eqb t.0 both.0 in
@@ -114,43 +111,40 @@ module _ (delta : ℕ) (now : LocalTime) where
         ∙ rw (late-earlier first p.arrival, here', and-or_distrib_left here (late first) (late p.arrival))
         (or_assoc (here && late first) (here && late p.arrival) (some_late both l))) x
 
-  head_from_lem : (t : Timestamp) (first : LocalTime) (l : List Pending) → Joined t first l (head_from (At t first) l)
-  unfolding head_from
-  head_from_lem t first [] = record { first = first; is = refl; lateness = rw (eq-eqb t.0 t.0 refl) (sym (or-false (late first))) }
-  head_from_lem t first (p ∷ l) =
+  fold_lem : (t : Timestamp) (first : LocalTime) (l : List Pending) → Joined t first l (fold meet (Some (at t first)) l)
+  fold_lem t first [] = record { first = first; is = refl; lateness = rw (eq-eqb t.0 t.0 refl) (sym (or-false (late first))) }
+  fold_lem t first (p ∷ l) =
       let q = p.request.timestamp in
       case (ltb q.0 t.0)
-      (λ a. rw a (sooner t first p l a (head_from_lem q p.arrival l)))
+      (λ a. rw a (sooner t first p l a (fold_lem q p.arrival l)))
       (λ a. case (ltb t.0 q.0)
-      (λ b. rw (a, b) (later t first p l b (head_from_lem t first l)))
+      (λ b. rw (a, b) (later t first p l b (fold_lem t first l)))
       (λ b.
       let i : q.0 ≡ t.0 = omega (arith, ltb-false q.0 t.0 a, ltb-false t.0 q.0 b) in
-      rw (a, b) (same t first p l i (head_from_lem t (earlier first p.arrival) l))))
+      rw (a, b) (same t first p l i (fold_lem t (earlier first p.arrival) l))))
 
   -- a queue that has a request has the rules' head
   head_is : (p : Pending) (l : List Pending) → Found (head_in (p ∷ l)) (head_timestamp (p ∷ l)) (is_stable delta now (batch_of (p ∷ l)))
-  unfolding head_from
   head_is p l =
       let with-t : Pending → Bool = λ q. stamped (head_timestamp (p ∷ l)) q.request in
       let stable = stable-late (batch_of (p ∷ l)) ∙ some_keep with-t (λ q. late q.arrival) (p ∷ l) in
-      found_as refl (sym stable) (head_from_lem p.request.timestamp p.arrival l)
+      found_as refl (sym stable) (fold_lem p.request.timestamp p.arrival l)
 
   -- a head that is found late is the queue's, and the batch is stable
-  pub late_yes : (l : List Pending) {t : Timestamp} {first : LocalTime} → where_late delta now (head_in l) ≡ At t first
-      → (t ≡ head_timestamp l) × (is_stable delta now (batch_of l) ≡ true)
-  unfolding head_from
-  late_yes [] e = absurd (nothing_at e)
-  late_yes (p ∷ l) {t} {first} e =
+  pub late_yes : (l : List Pending) {h : Head} → where_late delta now (head_in l) ≡ Some h
+      → (h.timestamp ≡ head_timestamp l) × (is_stable delta now (batch_of l) ≡ true)
+  late_yes [] e = absurd (cc)
+  late_yes (p ∷ l) {h} e =
       let f = head_is p l in
       case (is_stable delta now (batch_of (p ∷ l)))
-      (λ b. let z : At (head_timestamp (p ∷ l)) f.first ≡ At t first = rw (f.is, f.lateness, b) at e in (cc, b))
-      (λ b. let z : Nothing ≡ At t first = rw (f.is, f.lateness, b) at e in absurd (nothing_at z))
+      (λ b. let z : Some (at (head_timestamp (p ∷ l)) f.first) ≡ Some h = rw (f.is, f.lateness, b) at e in (cc, b))
+      (λ b. let z : ◌≡◌ {A = Option Head} None (Some h) = rw (f.is, f.lateness, b) at e in absurd (cc))
 
   -- where none is found late, the batch is not stable
-  pub late_no : (l : List Pending) → where_late delta now (head_in l) ≡ Nothing → is_stable delta now (batch_of l) ≡ false
+  pub late_no : (l : List Pending) → where_late delta now (head_in l) ≡ None → is_stable delta now (batch_of l) ≡ false
   late_no [] e = refl
   late_no (p ∷ l) e =
       let f = head_is p l in
       case (is_stable delta now (batch_of (p ∷ l)))
-      (λ b. let z : At (head_timestamp (p ∷ l)) f.first ≡ Nothing = rw (f.is, f.lateness, b) at e in absurd (nothing_at (sym z)))
+      (λ b. let z : Some (at (head_timestamp (p ∷ l)) f.first) ≡ None = rw (f.is, f.lateness, b) at e in absurd (cc))
       (λ b. b)

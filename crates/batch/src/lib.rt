@@ -8,5 +8,5 @@
 mod pending;
 mod unanimity;
 
-pub use pending::{Head, in_batch, stable_head, take_off};
+pub use pending::{Batch, Head, in_batch, stable_head, take_off};
 pub use unanimity::{all_reads, first_of, is_unanimous};

@@ -3,17 +3,15 @@ ghost use Rattle.std.specs.Prelude.{◌≤◌, length};
 
 use std::io::Read;
 
-// Reads until the input ends, a read fails or the bytes are full, and gives how many were read.
+// Reads until the input ends, a read fails or the bytes are full, and gives how many were read. std has no
+// such call: `read_exact` does not tell how many came, and `read_to_end` needs a heap. crates/pieces has it
+// too: a program reads its own input, and no library holds what reads (docs/DECISIONS.md).
 pub(crate) fn read_full(file: &mut impl Read, text: &mut [u8]) -> usize
     ensures { result ≤ length text.new }
 {
-    let mut count: usize = 0;
-    while count < text.len() {
-        match file.read(&mut text[count..]) {
-            Ok(0) => return count,
-            Ok(n) => count += n,
-            Err(_) => return count,
-        }
+    let mut count = 0;
+    while let Ok(n @ 1..) = file.read(&mut text[count..]) {
+        count += n;
     }
     count
 }

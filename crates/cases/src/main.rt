@@ -11,86 +11,80 @@ mod show;
 mod votes;
 
 use input::read_full;
+use record::{Message, Request};
 use replica::Replica;
 use rules::Settings;
-use script::{Name, Scan};
+use script::{Name, Numbers, PLACES};
 use votes::Heard;
 
 // What is kept from line to line.
-#[derive(Clone, Copy)]
-pub struct Kept {
-    pub replica: Replica,
-    pub heard: Heard,
+#[derive(Drop)]
+struct Kept {
+    replica: Replica,
+    heard: Heard,
 }
 
-fn run_record(rt: &impl Print, name: Name, s: Scan) {
-    match name {
-        Name::ReadRequest => records::read_request(rt, s),
-        Name::ReadMessage => records::read_message(rt, s),
-        Name::WriteRequest => records::write_request(rt, s),
-        Name::WriteMessage => records::write_message(rt, s),
-        _ => {}
-    }
-}
-
-fn run_replica(rt: &impl Print, name: Name, s: Scan, r: Replica) -> Replica {
-    match name {
-        Name::Make => replicas::make(rt, s),
-        Name::Spoil => replicas::spoil(s, r),
-        Name::Deliver => replicas::deliver(rt, s, r),
-        Name::Step => replicas::step(rt, s, r),
-        _ => r,
-    }
-}
-
-fn run_vote(rt: &impl Print, name: Name, s: Scan, h: Heard) -> Heard {
-    match name {
-        Name::Clear => votes::none(),
-        Name::Hear => votes::hear(s, h),
-        Name::Vote => {
-            votes::show_vote(rt, s, h);
-            h
+impl Kept {
+    fn new() -> Kept {
+        let least = Settings {
+            k: 0,
+            groups: 1,
+            owner: 1,
+            delta: 0,
+        };
+        Kept {
+            replica: replica::make(least, 1).unwrap_or(Replica::blank()),
+            heard: Heard::none(),
         }
-        Name::Halts => {
-            votes::show_halts(rt, s, h);
-            h
+    }
+
+    fn run(&mut self, rt: &impl Print, name: Name, s: Numbers) {
+        // A match and no table of functions: what the arms take differs.
+        match name {
+            Name::Comment => {}
+            // Closures: what a function of another crate requires is not known of its bare name.
+            Name::ReadRequest => records::read(rt, s, |k, n, b| record::read_request(k, n, b)),
+            Name::ReadMessage => records::read(rt, s, |k, n, b| record::read_message(k, n, b)),
+            Name::WriteRequest => {
+                let r = Request::from(s.after(3));
+                records::write(rt, s, |k, n, d| record::write_request(k, n, r, d));
+            }
+            Name::WriteMessage => {
+                let m = Message::from(s.after(3));
+                records::write(rt, s, |k, n, d| record::write_message(k, n, m, d));
+            }
+            Name::Make => self.replica = replicas::make(rt, s),
+            Name::Spoil => replicas::spoil(s, &mut self.replica),
+            Name::Deliver => replicas::deliver(rt, s, &mut self.replica),
+            Name::Step => replicas::step(rt, s, &mut self.replica),
+            Name::Clear => self.heard = Heard::none(),
+            Name::Hear => self.heard.hear(Message::from(s)),
+            Name::Vote => self.heard.show_vote(rt, s),
+            Name::Halts => self.heard.show_halts(rt, s),
         }
-        _ => h,
     }
 }
 
-fn run_line(rt: &impl Print, line: &[u8], kept: Kept) -> Kept {
-    show::words(rt, line);
-    let name = script::name_of(line);
-    let s = script::scan_line(line);
-    let r = kept.replica;
-    let h = kept.heard;
-    run_record(rt, name, s);
-    let replica = run_replica(rt, name, s, r);
-    let heard = run_vote(rt, name, s, h);
-    show::words(rt, b"\n");
-    Kept { replica, heard }
+fn run_line(rt: &impl Print, line: &[u8], kept: &mut Kept) {
+    // It need not be text.
+    let _ = rt.write_all(line);
+    let mut places = [0; PLACES];
+    kept.run(rt, Name::from(line), Numbers::of_line(line, &mut places));
+    let _ = print!(rt; "\n");
 }
 
 fn main(rt: HostRuntime) {
     let mut text = [0u8; 131072];
     let filled = read_full(&mut rt.stdin(), &mut text);
-    let least = Settings {
-        k: 0,
-        groups: 1,
-        owner: 1,
-        delta: 0,
+    // A last line with no end goes on through the zeros behind it.
+    let end = match text[..filled].last() {
+        None | Some(b'\n') => filled,
+        Some(_) => text.len(),
     };
-    let made = replica::make(least, 1);
-    let replica = made.replica;
-    let heard = votes::none();
-    let mut kept = Kept { replica, heard };
-    let mut at: usize = 0;
-    while at < filled {
-        let end = script::line_end(&text, at);
-        if at < end {
-            kept = run_line(&rt, &text[at..end], kept);
+    let mut kept = Kept::new();
+    for line in text[..end].split(|b| *b == b'\n') {
+        if !line.is_empty() {
+            run_line(&rt, line, &mut kept);
         }
-        at = end + 1;
     }
 }

@@ -1,5 +1,4 @@
 // A line of a script: a name, and the decimal numbers after it.
-ghost use Rattle.std.specs.Prelude.{◌≤◌, length};
 
 // What a line asks for. A line that starts otherwise is only printed.
 #[derive(Clone, Copy)]
@@ -19,175 +18,75 @@ pub enum Name {
     Halts,
 }
 
+// By the letters that tell the names apart: a line that only has these letters asks for the same.
+impl From<&[u8]> for Name {
+    fn from(line: &[u8]) -> Name {
+        match line {
+            [b'r', _, _, _, _, b'r', _, ..] => Name::ReadRequest,
+            [b'r', _, _, _, _, _, _, ..] => Name::ReadMessage,
+            [b'w', _, _, _, _, _, b'r', ..] => Name::WriteRequest,
+            [b'w', _, _, _, _, _, _, ..] => Name::WriteMessage,
+            [b'm', _, ..] => Name::Make,
+            [b's', b'p', ..] => Name::Spoil,
+            [b's', _, ..] => Name::Step,
+            [b'd', _, ..] => Name::Deliver,
+            [b'c', _, ..] => Name::Clear,
+            [b'h', b'e', ..] => Name::Hear,
+            [b'h', _, ..] => Name::Halts,
+            [b'v', _, ..] => Name::Vote,
+            _ => Name::Comment,
+        }
+    }
+}
+
+// How many numbers of a line are read, and how many of them may be bytes of a record.
+pub(crate) const PLACES: usize = 64;
+
+pub(crate) const BYTES: usize = 62;
+
+// The numbers of a line.
 #[derive(Clone, Copy)]
-pub struct Scan {
-    pub numbers: [u64; 64],
-    pub count: usize,
-    // Whether the last byte was a digit of a number.
-    pub inside: bool,
-}
-
-// Of read_request, read_message, write_request, write_message.
-fn record_name(read: bool, request: bool) -> Name {
-    if read {
-        if request {
-            return Name::ReadRequest;
-        }
-        return Name::ReadMessage;
-    }
-    if request {
-        return Name::WriteRequest;
-    }
-    Name::WriteMessage
-}
-
-// Of the names that do not speak of records, by their first two letters.
-fn other_name(first: u8, second: u8) -> Name {
-    match first {
-        b'm' => Name::Make,
-        b'd' => Name::Deliver,
-        b'c' => Name::Clear,
-        b'v' => Name::Vote,
-        b's' => {
-            if second == b'p' {
-                return Name::Spoil;
-            }
-            Name::Step
-        }
-        b'h' => {
-            if second == b'e' {
-                return Name::Hear;
-            }
-            Name::Halts
-        }
-        _ => Name::Comment,
-    }
-}
-
-pub(crate) fn name_of(line: &[u8]) -> Name {
-    if line.len() < 2 {
-        return Name::Comment;
-    }
-    let first = line[0];
-    let second = line[1];
-    if line.len() < 7 {
-        return other_name(first, second);
-    }
-    if first == b'r' {
-        return record_name(true, line[5] == b'r');
-    }
-    if first == b'w' {
-        return record_name(false, line[6] == b'r');
-    }
-    other_name(first, second)
-}
+pub struct Numbers<'a>(&'a [u64]);
 
 // x with one more decimal digit, or x where that does not fit.
-fn with_digit(x: u64, digit: u64) -> u64 {
-    if 9 < digit {
-        return x;
-    }
-    if x < 1844674407370955161 {
-        return x * 10 + digit;
-    }
-    if x == 1844674407370955161 {
-        if digit <= 5 {
-            return x * 10 + digit;
-        }
-    }
-    x
+fn with_digit(x: u64, digit: u8) -> u64 {
+    x.checked_mul(10)
+        .and_then(|tens| tens.checked_add(u64::from(digit)))
+        .unwrap_or(x)
 }
 
-// One more digit of the number that stands last.
-fn longer(s: Scan, digit: u64) -> Scan {
-    let count = s.count;
-    if count < 1 {
-        return s;
-    }
-    if 64 < count {
-        return s;
-    }
-    let at = count - 1;
-    let x = s.numbers[at];
-    let mut next = s;
-    next.numbers[at] = with_digit(x, digit);
-    next
+// Not `parse`, which refuses a number that does not fit: here the digits that do not fit are left out.
+fn number_of(digits: &[u8]) -> u64 {
+    digits
+        .iter()
+        .fold(0, |x, b| with_digit(x, b.saturating_sub(b'0')))
 }
 
-// A number that starts with a digit.
-fn started(s: Scan, digit: u64) -> Scan {
-    let count = s.count;
-    if 64 <= count {
-        return s;
-    }
-    let mut next = s;
-    next.numbers[count] = digit;
-    next.count = count + 1;
-    next.inside = true;
-    next
+fn low_byte(x: u64) -> u8 {
+    (x % 256) as u8
 }
 
-fn outside(s: Scan) -> Scan {
-    let mut next = s;
-    next.inside = false;
-    next
-}
+impl<'a> Numbers<'a> {
+    // Puts the numbers of a line into the places that are lent; those past the last place are left out.
+    pub(crate) fn of_line(line: &[u8], places: &'a mut [u64; PLACES]) -> Numbers<'a> {
+        let numbers = line
+            .split(|b| !b.is_ascii_digit())
+            .filter(|digits| !digits.is_empty());
+        let count = places
+            .iter_mut()
+            .zip(numbers)
+            .map(|(place, digits)| *place = number_of(digits))
+            .count();
+        Numbers(&places[..count])
+    }
 
-fn with_byte(s: Scan, b: u8) -> Scan {
-    if b < b'0' {
-        return outside(s);
-    }
-    if b'9' < b {
-        return outside(s);
-    }
-    let digit = (b - b'0') as u64;
-    if s.inside {
-        return longer(s, digit);
-    }
-    started(s, digit)
-}
-
-pub(crate) fn scan_line(line: &[u8]) -> Scan {
-    let mut s = Scan {
-        numbers: [0u64; 64],
-        count: 0,
-        inside: false,
-    };
-    let mut i: usize = 0;
-    while i < line.len() {
-        s = with_byte(s, line[i]);
-        i += 1;
-    }
-    s
-}
-
-// The end of the line that starts at a place.
-pub(crate) fn line_end(text: &[u8], at: usize) -> usize
-    requires { at ≤ length text.now }
-    ensures from { at ≤ result }
-    ensures within { result ≤ length text.now }
-{
-    let mut end = at;
-    while end < text.len() {
-        if text[end] == b'\n' {
-            return end;
-        }
-        end += 1;
-    }
-    end
-}
-
-impl Scan {
     // Number i; 0 where the line has fewer.
     pub(crate) fn number(self, i: usize) -> u64 {
-        if 64 <= i {
-            return 0;
-        }
-        self.numbers[i]
+        self.0.get(i).copied().unwrap_or(0)
     }
 
     pub(crate) fn byte(self, i: usize) -> u8 {
-        (self.number(i) % 256) as u8
+        low_byte(self.number(i))
     }
 
     pub(crate) fn short(self, i: usize) -> u16 {
@@ -196,5 +95,20 @@ impl Scan {
 
     pub(crate) fn word(self, i: usize) -> u32 {
         (self.number(i) % 4294967296) as u32
+    }
+
+    // The numbers after the first ones; none where the line has no more.
+    pub(crate) fn after(self, count: usize) -> Numbers<'a> {
+        Numbers(self.0.get(count..).unwrap_or(&[]))
+    }
+
+    // Those after the first ones as bytes; None where the line lacks first ones, or more follow than fit.
+    pub(crate) fn bytes_after(self, count: usize, places: &mut [u8; BYTES]) -> Option<&[u8]> {
+        let numbers = self.0.get(count..)?;
+        let bytes = places.get_mut(..numbers.len())?;
+        for (byte, number) in bytes.iter_mut().zip(numbers) {
+            *byte = low_byte(*number);
+        }
+        Some(bytes)
     }
 }

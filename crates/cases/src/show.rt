@@ -1,91 +1,91 @@
 // What a call answered, as text. A failed write is not reported.
-use question::Outcome;
+use question::Refusal;
 use record::{Message, Request};
 use rules::{Election, HaltCount};
+use std::fmt;
 
-pub(crate) fn words(rt: &impl Print, bytes: &[u8]) {
-    let _ = rt.write_all(bytes);
+// What a call gave, as a case shows it.
+#[derive(Drop)]
+pub(crate) struct Given<T>(pub T);
+
+impl fmt::Display for Given<()> {
+    fn fmt<W: fmt::Write>(&self, f: &mut fmt::Formatter<W>) -> fmt::Result {
+        f.write_str("done")
+    }
 }
 
-pub(crate) fn number(rt: &impl Print, n: u64) {
-    words(rt, b" ");
-    let _ = rt.print(n);
+impl fmt::Display for Given<Request> {
+    fn fmt<W: fmt::Write>(&self, f: &mut fmt::Formatter<W>) -> fmt::Result {
+        let r = self.0;
+        write!(
+            f,
+            "accepted {} {} {} {} {} {}",
+            r.kind, r.group, r.process, r.variable, r.timestamp.0, r.value
+        )
+    }
 }
 
-pub(crate) fn byte(rt: &impl Print, n: u8) {
-    number(rt, n as u64);
-}
-
-pub(crate) fn refused(rt: &impl Print, n: u8) {
-    words(rt, b" -> refused");
-    byte(rt, n);
-}
-
-pub(crate) fn request(rt: &impl Print, r: Request) {
-    words(rt, b" -> accepted");
-    byte(rt, r.kind);
-    byte(rt, r.group);
-    byte(rt, r.process);
-    number(rt, r.variable as u64);
-    number(rt, r.timestamp.0);
-    number(rt, r.value as u64);
-}
-
-pub(crate) fn message(rt: &impl Print, m: Message) {
-    byte(rt, m.kind);
-    byte(rt, m.group);
-    byte(rt, m.process);
-    byte(rt, m.replica);
-    number(rt, m.variable as u64);
-    number(rt, m.timestamp.0);
-    number(rt, m.value as u64);
-}
-
-pub(crate) fn accepted(rt: &impl Print, m: Message) {
-    words(rt, b" -> accepted");
-    message(rt, m);
+impl fmt::Display for Given<Message> {
+    fn fmt<W: fmt::Write>(&self, f: &mut fmt::Formatter<W>) -> fmt::Result {
+        let fields = Fields(self.0);
+        write!(f, "accepted {fields}")
+    }
 }
 
 // The sets as bytes.
-pub(crate) fn election(rt: &impl Print, e: Election) {
-    words(rt, b" -> value");
-    number(rt, e.value as u64);
-    words(rt, b" agreed");
-    byte(rt, e.agreed);
-    words(rt, b" other");
-    byte(rt, e.other);
-    words(rt, b" silent");
-    byte(rt, e.silent);
-}
-
-pub(crate) fn halts(rt: &impl Print, h: HaltCount) {
-    words(rt, b" -> count");
-    byte(rt, h.size);
-    words(rt, b" senders");
-    byte(rt, h.senders);
-    if h.halt {
-        words(rt, b" halt");
+impl fmt::Display for Given<Election> {
+    fn fmt<W: fmt::Write>(&self, f: &mut fmt::Formatter<W>) -> fmt::Result {
+        let e = self.0;
+        write!(
+            f,
+            "value {} agreed {} other {} silent {}",
+            e.value, e.agreed, e.other, e.silent
+        )
     }
 }
 
-pub(crate) fn outcome(rt: &impl Print, o: Outcome) {
-    match o {
-        Outcome::Done => {
-            words(rt, b" -> done");
-        }
-        Outcome::Refused(n) => refused(rt, n),
+impl fmt::Display for Given<HaltCount> {
+    fn fmt<W: fmt::Write>(&self, f: &mut fmt::Formatter<W>) -> fmt::Result {
+        let h = self.0;
+        let halt = if h.halt { " halt" } else { "" };
+        write!(f, "count {} senders {}{halt}", h.size, h.senders)
     }
 }
 
-// The first n bytes.
-pub(crate) fn bytes(rt: &impl Print, b: &[u8], n: usize) {
-    words(rt, b" :");
-    let mut i: usize = 0;
-    while i < n {
-        if b.len() <= i {
-            return;
+// The fields of a message.
+#[derive(Drop)]
+pub(crate) struct Fields(pub Message);
+
+impl fmt::Display for Fields {
+    fn fmt<W: fmt::Write>(&self, f: &mut fmt::Formatter<W>) -> fmt::Result {
+        let m = self.0;
+        write!(
+            f,
+            "{} {} {} {} {} {} {}",
+            m.kind, m.group, m.process, m.replica, m.variable, m.timestamp.0, m.value
+        )
+    }
+}
+
+pub(crate) fn refused(rt: &impl Print, refusal: Refusal) {
+    let _ = print!(rt; " -> refused {}", u8::from(refusal));
+}
+
+pub(crate) fn answer<T: Drop>(rt: &impl Print, answer: Result<T, Refusal>)
+where
+    Given<T>: fmt::Display,
+{
+    match answer {
+        Ok(given) => {
+            let _ = print!(rt; " -> {}", Given(given));
         }
-        byte(rt, b[i]);
-        i += 1;
+        Err(refusal) => refused(rt, refusal),
+    }
+}
+
+pub(crate) fn bytes(rt: &impl Print, bytes: &[u8]) {
+    let _ = print!(rt; " :");
+    for b in bytes {
+        let _ = print!(rt; " {b}");
     }
 }

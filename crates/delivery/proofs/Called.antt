@@ -4,7 +4,8 @@ use mathlib.Core.Path.{◌≡◌}
 use mathlib.Core.List.{List}
 use contract.Lifetimes.{Lfts}
 use denote.Ref.{Bor}
-use Rattle.question.specs.Question.{after, verdict, outcome}
+use Rattle.question.specs.Question.{after, verdict}
+use Rattle.question.specs.Refusals.{answer_of}
 use Rattle.layout.specs.declared.clock.LocalTime.{LocalTime}
 use Rattle.rules.specs.Replica.{deliver}
 use Rattle.state.specs.State.{state_of}
@@ -20,7 +21,7 @@ pub record Delivers (r : Replica) (bytes : List ℕ) (at : LocalTime) (d : Deliv
   pub learnt : deliver-contract.Learnt lifetimes (r, (slice, (at, tt))) d (r, (slice, (at, tt)))
 
 pub record DeliveredAs (r : Replica) (bytes : List ℕ) (at : LocalTime) (d : Delivered) : Type 0 where
-  pub answer : outcome d.outcome ≡ verdict (deliver (state_of r) bytes at)
+  pub answer : answer_of d.outcome ≡ verdict (deliver (state_of r) bytes at)
   pub state : state_of d.replica ≡ after (state_of r) (deliver (state_of r) bytes at)
 
 pub delivers_mean : {r : Replica} {bytes : List ℕ} {at : LocalTime} {d : Delivered} → Delivers r bytes at d → DeliveredAs r bytes at d

@@ -6,7 +6,7 @@ use sheet::SHEET;
 fn main(rt: HostRuntime) {
     let mut text = [0u8; SHEET];
     // Never refused: the text is as long as the sheet.
-    sheet::write_sheet(&mut text);
+    let _ = sheet::write_sheet(&mut text);
     if rt.write_all(&text).is_err() {
         let _ = eprintln!(rt; "drill: cannot write");
     }

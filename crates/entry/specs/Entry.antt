@@ -1,14 +1,15 @@
 -- Document 01, "The journal program": what a 40-byte record asks for.
-use Rattle.std.specs.Prelude.{ℕ, ◌+◌, ◌*◌, Bool, cond, ◌&&◌, ◌||◌, List, [], ◌∷◌, eqb, length, take, drop, get_or}
+use Rattle.std.specs.Prelude.{ℕ, ◌+◌, ◌*◌, Bool, cond, ◌&&◌, ◌||◌, List, [], ◌∷◌, eqb, length, take, drop, get_or, Result}
 use Rattle.limits.specs.Limits.{entry_size}
-use Rattle.question.specs.Question.{Question, ◌else◌, Answer, given, refused, ask, within}
+use Rattle.question.specs.Question.{Question, ◌else◌, Answer, given, ask, map_answer, within}
+use Rattle.question.specs.Refusals.{answer_of}
+use Rattle.question.specs.declared.refusal.Refusal.{Refusal}
 use Rattle.layout.specs.Layout.{field}
 use Rattle.layout.specs.declared.clock.LocalTime.{LocalTime}
 use Rattle.rules.specs.Lists.{every}
 use Rattle.rules.specs.declared.Settings.{Settings}
 use Rattle.rules.specs.Replica.{settings_questions}
 use Rattle.entry.specs.declared.entry.EntryRead.{EntryRead}
-use Rattle.entry.specs.declared.entry.SetupRead.{SetupRead}
 
 -- byte 0: what the record is: 1 setup, 2 delivery, 3 turn
 abbrev pub kind_of : List ℕ → ℕ
@@ -64,14 +65,12 @@ entry_in bytes =
 unfoldable pub read_entry : ℕ → List ℕ → Answer Entry
 read_entry k bytes = ask (entry_questions k bytes) (given (entry_in bytes))
 
--- ── the answers of the code: document 01's number and values for each case ──
-
-abbrev pub setup_answer : SetupRead → Answer Settings
-setup_answer (SetupRead.Accepted u) = given u
-setup_answer (SetupRead.Refused number) = refused number
+-- ── the answers of the code ──
 
 -- the request of a delivery is in the record
-abbrev pub entry_answer : List ℕ → EntryRead → Answer Entry
-entry_answer bytes (EntryRead.Delivery replica at) = given (delivery replica at (take 24 (drop 16 bytes)))
-entry_answer bytes (EntryRead.Turn replica at) = given (turn replica at)
-entry_answer bytes (EntryRead.Refused number) = refused number
+abbrev pub event_of : List ℕ → EntryRead → Entry
+event_of bytes (EntryRead.Delivery replica at) = delivery replica at (take 24 (drop 16 bytes))
+event_of bytes (EntryRead.Turn replica at) = turn replica at
+
+abbrev pub entry_answer : List ℕ → Result EntryRead Refusal → Answer Entry
+entry_answer bytes read = map_answer (event_of bytes) (answer_of read)

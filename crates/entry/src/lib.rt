@@ -3,4 +3,4 @@
 
 mod entry;
 
-pub use entry::{EntryRead, SetupRead, read_entry, read_setup};
+pub use entry::{EntryRead, read_entry, read_setup};

@@ -1,12 +1,14 @@
 // Reading and writing of records.
 ghost use Rattle.std.specs.Prelude.{◌≡◌};
-ghost use Rattle.question.specs.Question.{given, after, verdict, outcome};
-ghost use Rattle.record.specs.Record.{request_answer, message_answer, read_request, read_message, write_request, write_message};
+ghost use Rattle.question.specs.Question.{after, verdict};
+ghost use Rattle.question.specs.Refusals.{answer_of};
+ghost use Rattle.record.specs.Record.{read_request, read_message, write_request, write_message};
 ghost use Rattle.export.specs.Result.{refusal_of, request_result, message_result};
 
-use question::Outcome;
-use record::{Message, MessageRead, Request, RequestRead};
+use question::Refusal;
+use record::{Message, Request};
 
+// A struct for each result: a C function can give no generic one.
 #[repr(C)]
 #[derive(Clone, Copy)]
 pub struct RequestResult {
@@ -21,40 +23,37 @@ pub struct MessageResult {
     pub message: Message,
 }
 
-pub(crate) fn refusal_of(o: Outcome) -> u8
-    ensures { result ≡ refusal_of (outcome o) }
+// No From: neither a Result nor a byte is of this crate.
+pub(crate) fn refusal_of<T>(answer: &Result<T, Refusal>) -> u8
+    ensures { result ≡ refusal_of (answer_of answer.now) }
 {
-    match o {
-        Outcome::Done => 0,
-        Outcome::Refused(number) => number,
+    match answer {
+        Ok(_) => 0,
+        Err(refusal) => u8::from(*refusal),
     }
 }
 
 // Field by field: a copy of the whole would wait for the reader's narrow stores.
-fn accepted_request(r: Request) -> RequestResult
-    ensures { result ≡ request_result (given r) }
+fn request_by_fields(r: Request) -> Request
+    ensures { result ≡ r }
 {
     let timestamp = r.timestamp;
-    let request = Request {
+    Request {
         kind: r.kind,
         group: r.group,
         process: r.process,
         variable: r.variable,
         timestamp,
         value: r.value,
-    };
-    RequestResult {
-        refusal: 0,
-        request,
     }
 }
 
 // The same of a message.
-fn accepted_message(m: Message) -> MessageResult
-    ensures { result ≡ message_result (given m) }
+fn message_by_fields(m: Message) -> Message
+    ensures { result ≡ m }
 {
     let timestamp = m.timestamp;
-    let message = Message {
+    Message {
         kind: m.kind,
         group: m.group,
         process: m.process,
@@ -62,34 +61,28 @@ fn accepted_message(m: Message) -> MessageResult
         variable: m.variable,
         timestamp,
         value: m.value,
-    };
-    MessageResult {
-        refusal: 0,
-        message,
     }
 }
 
-fn request_result(read: RequestRead) -> RequestResult
-    ensures { result ≡ request_result (request_answer read) }
-{
-    match read {
-        RequestRead::Accepted(request) => accepted_request(request),
-        RequestRead::Refused(refusal) => RequestResult {
-            refusal,
-            request: Request::blank(),
-        },
+impl From<Result<Request, Refusal>> for RequestResult {
+    ghost from_gives = { λ read given. given ≡ request_result (answer_of read) };
+
+    fn from(read: Result<Request, Refusal>) -> RequestResult {
+        RequestResult {
+            refusal: refusal_of(&read),
+            request: read.map_or(Request::blank(), request_by_fields),
+        }
     }
 }
 
-fn message_result(read: MessageRead) -> MessageResult
-    ensures { result ≡ message_result (message_answer read) }
-{
-    match read {
-        MessageRead::Accepted(message) => accepted_message(message),
-        MessageRead::Refused(refusal) => MessageResult {
-            refusal,
-            message: Message::blank(),
-        },
+impl From<Result<Message, Refusal>> for MessageResult {
+    ghost from_gives = { λ read given. given ≡ message_result (answer_of read) };
+
+    fn from(read: Result<Message, Refusal>) -> MessageResult {
+        MessageResult {
+            refusal: refusal_of(&read),
+            message: read.map_or(Message::blank(), message_by_fields),
+        }
     }
 }
 
@@ -97,14 +90,14 @@ fn message_result(read: MessageRead) -> MessageResult
 pub extern "C" fn failstop_read_request(k: u8, n: u8, bytes: &[u8]) -> RequestResult
     ensures { result ≡ request_result (read_request k n bytes.now) }
 {
-    request_result(record::read_request(k, n, bytes))
+    RequestResult::from(record::read_request(k, n, bytes))
 }
 
 #[unsafe(no_mangle)]
 pub extern "C" fn failstop_read_message(k: u8, n: u8, bytes: &[u8]) -> MessageResult
     ensures { result ≡ message_result (read_message k n bytes.now) }
 {
-    message_result(record::read_message(k, n, bytes))
+    MessageResult::from(record::read_message(k, n, bytes))
 }
 
 #[unsafe(no_mangle)]
@@ -112,7 +105,7 @@ pub extern "C" fn failstop_write_request(k: u8, n: u8, r: Request, destination: 
     ensures answer { result ≡ refusal_of (verdict (write_request k n r destination.old)) }
     ensures content { destination.new ≡ after destination.old (write_request k n r destination.old) }
 {
-    refusal_of(record::write_request(k, n, r, destination))
+    refusal_of(&record::write_request(k, n, r, destination))
 }
 
 #[unsafe(no_mangle)]
@@ -120,5 +113,5 @@ pub extern "C" fn failstop_write_message(k: u8, n: u8, m: Message, destination: 
     ensures answer { result ≡ refusal_of (verdict (write_message k n m destination.old)) }
     ensures content { destination.new ≡ after destination.old (write_message k n m destination.old) }
 {
-    refusal_of(record::write_message(k, n, m, destination))
+    refusal_of(&record::write_message(k, n, m, destination))
 }

@@ -5,12 +5,11 @@ ghost use Rattle.question.specs.Question.{refused, map_answer, after, verdict};
 ghost use Rattle.rules.specs.Replica.{make, deliver, step};
 ghost use Rattle.state.specs.State.{state_of};
 ghost use Rattle.state.specs.Made.{blank_replica, blank_state};
-ghost use Rattle.step.specs.Answer.{step_answer};
 ghost use Rattle.export.specs.Result.{refusal_of};
 
 use crate::records::refusal_of;
 use record::LocalTime;
-use replica::{Replica, StepAnswer};
+use replica::Replica;
 use rules::Settings;
 
 #[repr(C)]
@@ -29,24 +28,6 @@ pub struct StepResult {
     pub replica: Replica,
 }
 
-fn refusal_of_step(a: StepAnswer) -> u8
-    ensures { result ≡ refusal_of (step_answer a) }
-{
-    match a {
-        StepAnswer::Sent(_) => 0,
-        StepAnswer::Refused(number) => number,
-    }
-}
-
-fn sent(a: StepAnswer) -> usize
-    ensures { result ≡ after 0 (step_answer a) }
-{
-    match a {
-        StepAnswer::Sent(count) => count,
-        StepAnswer::Refused(_) => 0,
-    }
-}
-
 #[unsafe(no_mangle)]
 pub extern "C" fn failstop_make(u: Settings, number: u8) -> ReplicaResult
     ensures answer { result.refusal ≡ refusal_of (verdict (make u number)) }
@@ -54,11 +35,9 @@ pub extern "C" fn failstop_make(u: Settings, number: u8) -> ReplicaResult
     ensures blank { (q : ℕ) → make u number ≡ refused q → result.replica ≡ blank_replica }
 {
     let made = replica::make(u, number);
-    let outcome = made.outcome;
-    let replica = made.replica;
     ReplicaResult {
-        refusal: refusal_of(outcome),
-        replica,
+        refusal: refusal_of(&made),
+        replica: made.unwrap_or(Replica::blank()),
     }
 }
 
@@ -69,10 +48,11 @@ pub extern "C" fn failstop_deliver(r: Replica, bytes: &[u8], at: LocalTime) -> R
     ensures kept { (q : ℕ) → deliver (state_of r) bytes.now at ≡ refused q → result.replica ≡ r }
 {
     let delivered = replica::deliver(r, bytes, at);
+    // By names of their own: as fields of a field the replica would be copied once more.
     let outcome = delivered.outcome;
     let replica = delivered.replica;
     ReplicaResult {
-        refusal: refusal_of(outcome),
+        refusal: refusal_of(&outcome),
         replica,
     }
 }
@@ -89,8 +69,8 @@ pub extern "C" fn failstop_step(r: Replica, at: LocalTime, output: &mut [u8]) ->
     let answer = stepped.answer;
     let replica = stepped.replica;
     StepResult {
-        refusal: refusal_of_step(answer),
-        count: sent(answer),
+        refusal: refusal_of(&answer),
+        count: answer.unwrap_or(0),
         replica,
     }
 }

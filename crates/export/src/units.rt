@@ -7,7 +7,7 @@ ghost use Rattle.playback.specs.Calls.{AsPlayed};
 ghost use Rattle.export.specs.Stages.{stage_of, blank_player, player_of};
 
 use limits::{MAX_REPLICAS, UNIT_PLACES, UNIT_QUEUES, UNIT_VARIABLES};
-use playback::Stage;
+use playback::{Replicas, Stage};
 use rules::Settings;
 
 #[repr(C)]
@@ -28,17 +28,16 @@ pub struct BlockResult {
     pub used: usize,
 }
 
-fn stage_of(p: Player) -> Stage
-    ensures { result ≡ stage_of p }
-{
-    let settings = p.settings;
-    if p.stage == 0 {
-        return Stage::First;
+impl From<Player> for Stage {
+    ghost from_gives = { λ p stage. stage ≡ stage_of p };
+
+    fn from(p: Player) -> Stage {
+        match p.stage {
+            0 => Stage::First,
+            1 => Stage::Playing(p.settings, p.place),
+            _ => Stage::Stopped,
+        }
     }
-    if p.stage == 1 {
-        return Stage::Playing(settings, p.place);
-    }
-    Stage::Stopped
 }
 
 // Zeros beside the stage.
@@ -57,17 +56,19 @@ fn blank_player(stage: u8) -> Player
     }
 }
 
-fn player_of(stage: Stage) -> Player
-    ensures { result ≡ player_of stage }
-{
-    match stage {
-        Stage::First => blank_player(0),
-        Stage::Playing(settings, place) => Player {
-            stage: 1,
-            settings,
-            place,
-        },
-        Stage::Stopped => blank_player(2),
+impl From<Stage> for Player {
+    ghost from_gives = { λ stage p. p ≡ player_of stage };
+
+    fn from(stage: Stage) -> Player {
+        match stage {
+            Stage::First => blank_player(0),
+            Stage::Playing(settings, place) => Player {
+                stage: 1,
+                settings,
+                place,
+            },
+            Stage::Stopped => blank_player(2),
+        }
     }
 }
 
@@ -86,19 +87,16 @@ pub extern "C" fn failstop_play_block(
     ensures played { AsPlayed (play_block (length text.old) (unit_in (stage_of p) (arrays pending.old counts.old variables.old writes.old lasts.old)) block.now) (unit_in (stage_of result.player) (arrays pending.new counts.new variables.new writes.new lasts.new)) result.taken (page text.old 0) (page text.new result.used) }
     ensures kept { is_set_up (stage_of result.player) ≡ false → arrays pending.new counts.new variables.new writes.new lasts.new ≡ arrays pending.old counts.old variables.old writes.old lasts.old }
 {
-    let b = playback::play_block(
-        stage_of(p),
-        block,
+    let mut replicas = Replicas {
         pending,
         counts,
         variables,
         writes,
         lasts,
-        text,
-    );
-    let stage = b.stage;
+    };
+    let b = playback::play_block(Stage::from(p), block, &mut replicas, text);
     BlockResult {
-        player: player_of(stage),
+        player: Player::from(b.stage),
         taken: b.taken,
         used: b.used,
     }
@@ -114,5 +112,5 @@ pub extern "C" fn failstop_play_end(
 ) -> usize
     ensures { (a : Arrays) → a.variables ≡ variables.now → a.writes ≡ writes.now → page text.new result ≡ put_text (page text.old 0) (play_end (unit_in (stage_of p) a) rest.now) }
 {
-    playback::play_end(stage_of(p), rest, variables, writes, text)
+    playback::play_end(Stage::from(p), rest, variables, writes, text)
 }

@@ -1,10 +1,11 @@
 // The vote and the halt count, on a list of messages with its count.
 ghost use Rattle.std.specs.Prelude.{◌≡◌, take};
+ghost use Rattle.question.specs.Refusals.{answer_of};
 ghost use Rattle.rules.specs.Vote.{vote, halt_count};
-ghost use Rattle.ballot.specs.Answers.{vote_answer, halt_answer};
 ghost use Rattle.export.specs.Result.{vote_result, halt_result};
 
-use ballot::{HaltAnswer, VoteAnswer};
+use crate::records::refusal_of;
+use question::Refusal;
 use record::Message;
 use rules::{Election, HaltCount, Query};
 use vote::LIST_PLACES;
@@ -31,38 +32,35 @@ pub struct HaltResult {
     pub count: HaltCount,
 }
 
-fn vote_result(a: VoteAnswer) -> VoteResult
-    ensures { result ≡ vote_result (vote_answer a) }
-{
-    match a {
-        VoteAnswer::Elected(election) => VoteResult {
-            refusal: 0,
-            election,
-        },
-        VoteAnswer::Refused(refusal) => {
-            let election = Election {
-                value: 0,
-                agreed: 0,
-                other: 0,
-                silent: 0,
-            };
-            VoteResult { refusal, election }
+impl From<Result<Election, Refusal>> for VoteResult {
+    ghost from_gives = { λ vote given. given ≡ vote_result (answer_of vote) };
+
+    fn from(vote: Result<Election, Refusal>) -> VoteResult {
+        let none = Election {
+            value: 0,
+            agreed: 0,
+            other: 0,
+            silent: 0,
+        };
+        VoteResult {
+            refusal: refusal_of(&vote),
+            election: vote.unwrap_or(none),
         }
     }
 }
 
-fn halt_result(a: HaltAnswer) -> HaltResult
-    ensures { result ≡ halt_result (halt_answer a) }
-{
-    match a {
-        HaltAnswer::Counted(count) => HaltResult { refusal: 0, count },
-        HaltAnswer::Refused(refusal) => {
-            let count = HaltCount {
-                senders: 0,
-                size: 0,
-                halt: false,
-            };
-            HaltResult { refusal, count }
+impl From<Result<HaltCount, Refusal>> for HaltResult {
+    ghost from_gives = { λ count given. given ≡ halt_result (answer_of count) };
+
+    fn from(count: Result<HaltCount, Refusal>) -> HaltResult {
+        let none = HaltCount {
+            senders: 0,
+            size: 0,
+            halt: false,
+        };
+        HaltResult {
+            refusal: refusal_of(&count),
+            count: count.unwrap_or(none),
         }
     }
 }
@@ -72,7 +70,7 @@ pub extern "C" fn failstop_vote(k: u8, n: u8, q: Query, list: List) -> VoteResul
     ensures { result ≡ vote_result (vote k n q (take list.count list.messages)) }
 {
     let messages = list.messages;
-    vote_result(vote::vote_in(k, n, q, messages, list.count))
+    VoteResult::from(vote::vote_in(k, n, q, messages, list.count))
 }
 
 #[unsafe(no_mangle)]
@@ -86,5 +84,5 @@ pub extern "C" fn failstop_count_halts(
     ensures { result ≡ halt_result (halt_count k n group process (take list.count list.messages)) }
 {
     let messages = list.messages;
-    halt_result(vote::count_halts_in(k, n, group, process, messages, list.count))
+    HaltResult::from(vote::count_halts_in(k, n, group, process, messages, list.count))
 }

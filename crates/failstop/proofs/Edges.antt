@@ -1,4 +1,4 @@
--- The theorem at its edges: on the two whole units of crates/rules/specs/Edge_units.antt, with as many faulty replicas as k = 2 allows.
+-- The theorem at its edges: on the two whole units of crates/rules/specs/EdgeUnits.antt, with as many faulty replicas as k = 2 allows.
 -- Requests arrive exactly at first + δ, closing steps come δ + 1 after the last arrival, process k + 1 reads and counts, and a list has
 -- 64 messages. A supposition or a claim that is narrower by one passes the proof, and is refused here.
 use Prim.Native.Nat.{ℕ, zero, suc, ◌≤◌, ◌<◌}

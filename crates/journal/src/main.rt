@@ -6,7 +6,7 @@
 mod output;
 mod player;
 
-use output::{report_unopened, report_unread, write_name};
+use output::{Failure, write_name};
 use player::play_journal;
 use std::env::FillError;
 use std::fs::File;
@@ -17,78 +17,44 @@ use std::str;
 // The bytes of the longest name.
 const NAME: usize = 4096;
 
-// The file of a name, where it can be opened. A name that is not UTF-8 cannot.
-fn open<R: Files>(rt: &R, name: &[u8]) -> Option<R::File> {
-    match str::from_utf8(name) {
-        Ok(path) => File::open(rt, path).ok(),
-        Err(_) => None,
-    }
+// The file of a name. A name that is not UTF-8 cannot be opened.
+fn open<'a, R: Files>(rt: &R, name: &'a [u8]) -> Result<R::File, Failure<'a>> {
+    str::from_utf8(name)
+        .ok()
+        .and_then(|path| File::open(rt, path).ok())
+        .ok_or(Failure::Unopened(name))
 }
 
-// Standard input is closed after its first journal: a second one cannot be read.
-fn play_stdin<I: Read + Drop>(
-    stdin: &mut Option<I>,
-    out: &mut impl Write,
-    err: &mut impl Write,
-) -> bool {
-    match stdin.take() {
-        Some(mut file) => play_journal(&mut file, out, err),
-        None => {
-            report_unread(err);
-            false
-        }
-    }
-}
-
-fn play_file<R: Files>(rt: &R, name: &[u8], out: &mut impl Write, err: &mut impl Write) -> bool {
-    match open(rt, name) {
-        Some(mut file) => write_name(out, err, name) && play_journal(&mut file, out, err),
-        None => {
-            report_unopened(err, name);
-            false
-        }
-    }
-}
-
-// Whether all of it was read and written.
-fn play_named<R: Files, I: Read + Drop>(
+// The journal of a name, under a line with it. Standard input is closed after its first journal: a second
+// one cannot be read.
+fn play_named<'a, R: Files, I: Read + Drop>(
     rt: &R,
     stdin: &mut Option<I>,
-    name: &[u8],
+    name: &'a [u8],
     out: &mut impl Write,
-    err: &mut impl Write,
-) -> bool {
-    if name.len() == 1 {
-        if name[0] == b'-' {
-            return write_name(out, err, name) && play_stdin(stdin, out, err);
-        }
+) -> Result<(), Failure<'a>> {
+    if name == b"-".as_slice() {
+        write_name(out, name)?;
+        let mut file = stdin.take().ok_or(Failure::Unread)?;
+        return play_journal(&mut file, out);
     }
-    play_file(rt, name, out, err)
+    let mut file = open(rt, name)?;
+    write_name(out, name)?;
+    play_journal(&mut file, out)
 }
 
-// Whether there is an argument i, and all of it was read and written. One that is longer than any name
-// names no file.
-fn play_argument<R: Env + Files, I: Read + Drop>(
-    rt: &R,
-    stdin: &mut Option<I>,
-    i: usize,
-    out: &mut impl Write,
-    err: &mut impl Write,
-) -> bool {
-    let mut name = [0u8; NAME];
-    match rt.arg(i, &mut name) {
-        Ok(length) => play_named(rt, stdin, &name[..length], out, err),
-        Err(FillError::TooLong) => play_named(rt, stdin, b"", out, err),
-        Err(FillError::NotPresent) => false,
+// The name that is argument i, where there is one. One that is longer than any name names no file.
+fn name_of<'a>(rt: &impl Env, i: usize, place: &'a mut [u8; NAME]) -> Option<&'a [u8]> {
+    match rt.arg(i, place) {
+        Ok(length) => Some(&place[..length]),
+        Err(FillError::TooLong) => Some(b""),
+        Err(FillError::NotPresent) => None,
     }
 }
 
 // Whether there are arguments behind the program's own name.
 fn has_arguments(rt: &impl Env) -> bool {
-    match rt.arg(1, &mut []) {
-        Err(FillError::NotPresent) => false,
-        _ => true,
-    }
+    !matches!(rt.arg(1, &mut []), Err(FillError::NotPresent))
 }
 
 // A failure ends it.
@@ -96,12 +62,19 @@ fn main(rt: HostRuntime) {
     let mut out = rt.stdout();
     let mut err = rt.stderr();
     if !has_arguments(&rt) {
-        play_journal(&mut rt.stdin(), &mut out, &mut err);
+        if let Err(failure) = play_journal(&mut rt.stdin(), &mut out) {
+            failure.report(&mut err);
+        }
         return;
     }
     let mut stdin = Some(rt.stdin());
+    let mut place = [0u8; NAME];
     for i in 1..usize::MAX {
-        if !play_argument(&rt, &mut stdin, i, &mut out, &mut err) {
+        let Some(name) = name_of(&rt, i, &mut place) else {
+            return;
+        };
+        if let Err(failure) = play_named(&rt, &mut stdin, name, &mut out) {
+            failure.report(&mut err);
             return;
         }
     }

@@ -1,52 +1,47 @@
-// What is written: to standard output (`out`) the text, to standard error (`err`) what went wrong.
+// What is written: to standard output (`out`) the text, to standard error (`err`) why the program ends
+// before its last journal.
+//
+// Much of this file and of `main` stands in crates/pieces too: around a call of the system it promises
+// nothing, so no library holds it (docs/DECISIONS.md).
 use std::io::Write;
 
-fn report(err: &mut impl Write, words: &[u8]) {
+// Why it ends. No `Display`, which writes text: the bytes of a name are written as they are.
+#[derive(Clone, Copy)]
+pub(crate) enum Failure<'a> {
+    Unopened(&'a [u8]),
+    Unread,
+    Unwritten,
+    // So many reads that they are no longer counted. Nothing is said of it.
+    Uncounted,
+}
+
+// Where standard error cannot be written either, nobody is left to be told.
+fn say(err: &mut impl Write, words: &[u8]) {
     let _ = err.write_all(words);
 }
 
-// A failed write is reported once; nothing is written after it.
-fn write(out: &mut impl Write, err: &mut impl Write, bytes: &[u8]) -> bool {
-    let ok = out.write_all(bytes).is_ok();
-    if !ok {
-        report(err, b"journal: cannot write\n");
+impl<'a> Failure<'a> {
+    pub(crate) fn report(self, err: &mut impl Write) {
+        match self {
+            Failure::Unopened(name) => {
+                say(err, b"journal: cannot open ");
+                say(err, name);
+                say(err, b"\n");
+            }
+            Failure::Unread => say(err, b"journal: cannot read\n"),
+            Failure::Unwritten => say(err, b"journal: cannot write\n"),
+            Failure::Uncounted => {}
+        }
     }
-    ok
 }
 
-// The first `used` bytes of a text.
-pub(crate) fn write_first(
-    out: &mut impl Write,
-    err: &mut impl Write,
-    text: &[u8],
-    used: usize,
-) -> bool {
-    if text.len() < used {
-        return false;
-    }
-    if used == 0 {
-        return true;
-    }
-    write(out, err, &text[0..used])
+pub(crate) fn write(out: &mut impl Write, bytes: &[u8]) -> Result<(), Failure<'static>> {
+    out.write_all(bytes).map_err(|_| Failure::Unwritten)
 }
 
 // The line above the journal of a named file.
-pub(crate) fn write_name(out: &mut impl Write, err: &mut impl Write, name: &[u8]) -> bool {
-    if !write(out, err, b"== ") {
-        return false;
-    }
-    if !write(out, err, name) {
-        return false;
-    }
-    write(out, err, b"\n")
-}
-
-pub(crate) fn report_unopened(err: &mut impl Write, name: &[u8]) {
-    report(err, b"journal: cannot open ");
-    report(err, name);
-    report(err, b"\n");
-}
-
-pub(crate) fn report_unread(err: &mut impl Write) {
-    report(err, b"journal: cannot read\n");
+pub(crate) fn write_name(out: &mut impl Write, name: &[u8]) -> Result<(), Failure<'static>> {
+    write(out, b"== ")?;
+    write(out, name)?;
+    write(out, b"\n")
 }

@@ -1,10 +1,10 @@
 // A journal played from a file. What a read gives is played and its text written before the next read,
 // so whoever waits at the end of a live pipe sees the lines of a turn at once.
-ghost use Rattle.std.specs.Prelude.{◌≡◌, ◌+◌, ◌≤◌, length};
+ghost use Rattle.std.specs.Prelude.{◌≤◌, IfOk, length};
 
-use crate::output::{report_unread, write_first};
+use crate::output::{Failure, write};
 use limits::{MAX_REPLICAS, UNIT_PLACES, UNIT_QUEUES, UNIT_VARIABLES};
-use playback::Stage;
+use playback::{Replicas, Stage};
 use std::io::{Read, Write};
 
 // The bytes that are read at a time, 1,600 records, and those of the text that is collected.
@@ -12,194 +12,98 @@ const BLOCK: usize = 64000;
 
 const TEXT: usize = 65536;
 
-// How far the records of a read have come; `ok` where all text was written.
-#[derive(Clone, Copy)]
-pub struct Playing {
-    pub stage: Stage,
-    pub taken: usize,
-    pub ok: bool,
+// The unit that a journal is played on, how far it has come, and the text of a call.
+// crates/pieces has such a struct too: playback owns no arrays, since C lends it its own.
+#[derive(Drop)]
+struct Player {
+    stage: Stage,
+    pending: [[u64; 4]; UNIT_PLACES],
+    counts: [usize; UNIT_QUEUES],
+    variables: [u32; UNIT_VARIABLES],
+    writes: [u64; MAX_REPLICAS],
+    lasts: [u64; MAX_REPLICAS],
+    text: [u8; TEXT],
 }
 
-// All whole records of a block, and their text, as often as it fills.
-fn play_all(
-    first: Stage,
-    block: &[u8],
-    pending: &mut [[u64; 4]; UNIT_PLACES],
-    counts: &mut [usize; UNIT_QUEUES],
-    variables: &mut [u32; UNIT_VARIABLES],
-    writes: &mut [u64; MAX_REPLICAS],
-    lasts: &mut [u64; MAX_REPLICAS],
-    text: &mut [u8; TEXT],
-    out: &mut impl Write,
-    err: &mut impl Write,
-) -> Playing
-    ensures { result.taken ≤ length block.now }
-{
-    let mut stage = first;
-    let mut taken: usize = 0;
-    let mut ok = true;
-    let mut going = true;
-    while going {
-        let b = playback::play_block(
-            stage,
-            &block[taken..],
-            pending,
-            counts,
-            variables,
-            writes,
-            lasts,
-            text,
+impl Player {
+    fn new() -> Player {
+        Player {
+            stage: Stage::First,
+            pending: [[0; 4]; UNIT_PLACES],
+            counts: [0; UNIT_QUEUES],
+            variables: [0; UNIT_VARIABLES],
+            writes: [0; MAX_REPLICAS],
+            lasts: [0; MAX_REPLICAS],
+            text: [0; TEXT],
+        }
+    }
+
+    // One call, and its text. It gives how many bytes of the block were taken.
+    fn play(&mut self, block: &[u8], out: &mut impl Write) -> Result<usize, Failure<'static>>
+        ensures { IfOk result (λ taken. taken ≤ length block.now) }
+    {
+        let mut replicas = Replicas {
+            pending: &mut self.pending,
+            counts: &mut self.counts,
+            variables: &mut self.variables,
+            writes: &mut self.writes,
+            lasts: &mut self.lasts,
+        };
+        let b = playback::play_block(self.stage, block, &mut replicas, &mut self.text);
+        self.stage = b.stage;
+        let text = &self.text[..b.used];
+        write(out, text)?;
+        Ok(b.taken)
+    }
+
+    // All whole records of a block, as often as the text fills. It gives how many bytes are left.
+    fn play_all(&mut self, block: &[u8], out: &mut impl Write) -> Result<usize, Failure<'static>>
+        ensures { IfOk result (λ left. left ≤ length block.now) }
+    {
+        let mut left = block;
+        loop {
+            let taken = self.play(left, out)?;
+            if taken == 0 {
+                return Ok(left.len());
+            }
+            left = &left[taken..];
+        }
+    }
+
+    // The end of the input.
+    fn finish(&mut self, rest: &[u8], out: &mut impl Write) -> Result<(), Failure<'static>> {
+        let used = playback::play_end(
+            self.stage,
+            rest,
+            &self.variables,
+            &self.writes,
+            &mut self.text,
         );
-        stage = b.stage;
-        taken += b.taken;
-        ok = write_first(out, err, text, b.used);
-        going = ok & (0 < b.taken);
-    }
-    Playing { stage, taken, ok }
-}
-
-fn has_stopped(stage: Stage) -> bool {
-    match stage {
-        Stage::First => false,
-        Stage::Playing(_, _) => false,
-        Stage::Stopped => true,
+        let text = &self.text[..used];
+        write(out, text)
     }
 }
 
-// What a read gave: how many bytes, none at the end of the input.
-#[derive(Clone, Copy)]
-pub struct Got {
-    pub count: usize,
-    pub failed: bool,
-}
-
-// One read, behind the bytes that are held.
-fn read_more(file: &mut impl Read, block: &mut [u8], held: usize) -> Got
-    requires block_len { length block.old ≡ 64000 }
-    requires held_le { held ≤ 64000 }
-    ensures { held + result.count ≤ 64000 }
-{
-    match file.read(&mut block[held..]) {
-        Ok(count) => Got {
-            count,
-            failed: false,
-        },
-        Err(_) => Got {
-            count: 0,
-            failed: true,
-        },
-    }
-}
-
-// What is held after the records of a read: the bytes that are no whole record.
-#[derive(Clone, Copy)]
-pub struct Held {
-    pub stage: Stage,
-    pub count: usize,
-    pub ok: bool,
-}
-
-fn play_read(
-    stage: Stage,
-    block: &mut [u8],
-    filled: usize,
-    pending: &mut [[u64; 4]; UNIT_PLACES],
-    counts: &mut [usize; UNIT_QUEUES],
-    variables: &mut [u32; UNIT_VARIABLES],
-    writes: &mut [u64; MAX_REPLICAS],
-    lasts: &mut [u64; MAX_REPLICAS],
-    text: &mut [u8; TEXT],
-    out: &mut impl Write,
-    err: &mut impl Write,
-) -> Held
-    requires block_len { length block.old ≡ 64000 }
-    requires filled_le { filled ≤ 64000 }
-    ensures { result.count ≤ 64000 }
-{
-    let p = play_all(
-        stage,
-        &block[0..filled],
-        pending,
-        counts,
-        variables,
-        writes,
-        lasts,
-        text,
-        out,
-        err,
-    );
-    let count = playback::keep_left(block, p.taken, filled);
-    let next = p.stage;
-    Held {
-        stage: next,
-        count,
-        ok: p.ok,
-    }
-}
-
-// The end of the input.
-fn finish(
-    stage: Stage,
-    block: &[u8],
-    held: usize,
-    variables: &[u32; UNIT_VARIABLES],
-    writes: &[u64; MAX_REPLICAS],
-    text: &mut [u8; TEXT],
-    out: &mut impl Write,
-    err: &mut impl Write,
-) -> bool
-    requires block_len { length block.now ≡ 64000 }
-    requires held_le { held ≤ 64000 }
-{
-    let used = playback::play_end(stage, &block[0..held], variables, writes, text);
-    write_first(out, err, text, used)
-}
-
-// Whether all of it was read and written. Where a read fails there are no cards, and after a refused
-// first record nothing more is read.
+// Where a read fails there are no cards, and after a refused first record nothing more is read.
 pub(crate) fn play_journal(
     file: &mut impl Read,
     out: &mut impl Write,
-    err: &mut impl Write,
-) -> bool {
-    let mut pending = [[0u64; 4]; UNIT_PLACES];
-    let mut counts = [0usize; UNIT_QUEUES];
-    let mut variables = [0u32; UNIT_VARIABLES];
-    let mut writes = [0u64; MAX_REPLICAS];
-    let mut lasts = [0u64; MAX_REPLICAS];
+) -> Result<(), Failure<'static>> {
+    let mut player = Player::new();
     let mut block = [0u8; BLOCK];
-    let mut text = [0u8; TEXT];
-    let mut stage = Stage::First;
-    let mut held: usize = 0;
+    let mut held = 0usize;
+    // The input may never end.
     for _ in 0..u64::MAX {
-        let got = read_more(file, &mut block, held);
-        if got.failed {
-            report_unread(err);
-            return false;
+        let count = file.read(&mut block[held..]).map_err(|_| Failure::Unread)?;
+        if count == 0 {
+            return player.finish(&block[..held], out);
         }
-        if got.count == 0 {
-            return finish(
-                stage, &block, held, &variables, &writes, &mut text, out, err,
-            );
-        }
-        let next = play_read(
-            stage,
-            &mut block,
-            held + got.count,
-            &mut pending,
-            &mut counts,
-            &mut variables,
-            &mut writes,
-            &mut lasts,
-            &mut text,
-            out,
-            err,
-        );
-        stage = next.stage;
-        held = next.count;
-        if !next.ok | has_stopped(stage) {
-            return next.ok;
+        let filled = held + count;
+        let left = player.play_all(&block[..filled], out)?;
+        held = playback::keep_left(&mut block, filled - left, filled);
+        if matches!(player.stage, Stage::Stopped) {
+            return Ok(());
         }
     }
-    false
+    Err(Failure::Uncounted)
 }

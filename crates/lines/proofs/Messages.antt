@@ -1,15 +1,17 @@
 -- The messages among the records that were sent, and their lines put one behind the other. Assumes nothing.
 use Prim.Native.Nat.{ℕ, zero, suc, ◌+◌, ◌<◌}
 use mathlib.Core.Path.{◌≡◌, refl}
-use mathlib.Core.List.{List, [], map, map-append}
+use mathlib.Core.List.{List, [], ◌++◌, map, map-append}
 use lib.ListN.{length, take, drop, length-drop}
-use lib.Seq.{take_all, drop-drop}
+use lib.Seq.{take_all, take_at, drop_at}
+use native.Mathlib.Numerals.{add-one}
 use native.Mathlib.Omega.{arith}
 use Rattle.limits.specs.Limits.{record_size}
 use Rattle.text.specs.Text.{joined}
-use Rattle.text.specs.Page.{Page, put_text}
+use Rattle.text.specs.Writer.{put}
+use Rattle.text.specs.declared.Writer.{Writer}
 use Rattle.text.proofs.Lines.{joined-append}
-use Rattle.text.proofs.Put.{put-put}
+use Rattle.text.proofs.Put.{puts}
 use Rattle.question.specs.Question.{Answer, given, refused}
 use Rattle.question.proofs.Questions.{bind-given}
 use Rattle.record.specs.Record.{message_in, read_fields, read_message}
@@ -39,14 +41,20 @@ module _ (k n : ℕ) where
         no_messages count (drop record_size sent) (omega (arith, length-drop record_size sent)),
       )
 
-  -- one record's line, then those of the records behind it
-  pub put_next : (p q : Page) (count at : ℕ) (sent : List ℕ) →
-      q ≡ put_text p (joined (map message_line (accepted (read_message k n (take record_size (drop at sent)))))) →
-      put_text q (joined (map message_line (messages_in k n count (drop (at + record_size) sent))))
-      ≡ put_text p (joined (map message_line (messages_in k n (suc count) (drop at sent))))
+  -- nor where no more are asked for
+  pub none_left : (count : ℕ) (sent : List ℕ) → (0 < count → length sent < record_size) → messages_in k n count sent ≡ []
   unfolding messages_in
-  put_next p q count at sent e =
-      let first = accepted (read_message k n (take record_size (drop at sent))) in
-      let rest = messages_in k n count (drop record_size (drop at sent)) in
-      rw (e, ← drop-drop record_size at sent, map-append message_line first rest, joined-append (map message_line first) (map message_line rest))
-      (put-put p (joined (map message_line first)) (joined (map message_line rest)))
+  none_left zero sent h = refl
+  none_left (suc count) sent h = no_messages (suc count) sent (h (omega arith))
+
+  -- one record's line, then those of the records behind it
+  pub put_next : (w v : Writer) (count more : ℕ) (sent bytes rest : List ℕ) →
+      sent ≡ bytes ++ rest → length bytes ≡ record_size → count + 1 ≡ more →
+      v ≡ put w (joined (map message_line (accepted (read_message k n bytes)))) →
+      put v (joined (map message_line (messages_in k n count rest))) ≡ put w (joined (map message_line (messages_in k n more sent)))
+  unfolding messages_in
+  put_next w v count more sent bytes rest cut long counted e =
+      let first = accepted (read_message k n bytes) in
+      let others = messages_in k n count rest in
+      rw (e, ← counted, add-one, cut, take_at bytes rest record_size long, drop_at bytes rest record_size long, map-append message_line first others, joined-append (map message_line first) (map message_line others))
+      (puts w (joined (map message_line first)) (joined (map message_line others)))

@@ -1,5 +1,5 @@
 -- The journal program's lines, as ASCII.
-use Rattle.std.specs.Prelude.{ℕ, cond, List, [], ◌∷◌, ◌++◌, map, eqb}
+use Rattle.std.specs.Prelude.{ℕ, cond, List, [], ◌∷◌, ◌++◌, map, eqb, codes}
 use Rattle.text.specs.Text.{joined, line}
 use Rattle.question.specs.Question.{Answer, given, refused}
 use Rattle.record.specs.Kind.{reply}
@@ -8,18 +8,18 @@ use Rattle.rules.specs.Batch.{value_of}
 use Rattle.rules.specs.Replica.{State}
 use Rattle.rules.specs.Run.{messages_in}
 
--- "reply", "halt", "no", "card"
+-- the words that lines begin with
 abbrev pub reply_word : List ℕ
-reply_word = 114 ∷ 101 ∷ 112 ∷ 108 ∷ 121 ∷ []
+reply_word = codes "reply"
 
 abbrev pub halt_word : List ℕ
-halt_word = 104 ∷ 97 ∷ 108 ∷ 116 ∷ []
+halt_word = codes "halt"
 
 abbrev pub no_word : List ℕ
-no_word = 110 ∷ 111 ∷ []
+no_word = codes "no"
 
 abbrev pub card_word : List ℕ
-card_word = 99 ∷ 97 ∷ 114 ∷ 100 ∷ []
+card_word = codes "card"
 
 -- the numbers that every message's line begins with
 abbrev pub first_four : Message → List ℕ

@@ -7,7 +7,7 @@ mod output;
 mod player;
 mod tables;
 
-use output::{report, write_name};
+use output::{Failure, write_name};
 use player::play_journal;
 use std::env::FillError;
 use std::fs::File;
@@ -18,12 +18,12 @@ use std::{io, str};
 // The bytes of the longest name.
 const NAME: usize = 4096;
 
-// The file of a name, where it can be opened. A name that is not UTF-8 cannot.
-fn open<R: Files>(rt: &R, name: &[u8]) -> Option<R::File> {
-    match str::from_utf8(name) {
-        Ok(path) => File::open(rt, path).ok(),
-        Err(_) => None,
-    }
+// The file of a name. A name that is not UTF-8 cannot be opened.
+fn open<R: Files>(rt: &R, name: &[u8]) -> Result<R::File, Failure> {
+    str::from_utf8(name)
+        .ok()
+        .and_then(|path| File::open(rt, path).ok())
+        .ok_or(Failure::Unopened)
 }
 
 // Standard input is closed after its first journal: a second one is empty.
@@ -31,71 +31,51 @@ fn play_stdin<I: Read + Drop>(
     stdin: &mut Option<I>,
     number: usize,
     out: &mut impl Write,
-    err: &mut impl Write,
-) -> bool {
+) -> Result<(), Failure> {
     match stdin.take() {
-        Some(mut file) => play_journal(&mut file, number, out, err),
-        None => play_journal(&mut io::empty(), number, out, err),
+        Some(mut file) => play_journal(&mut file, number, out),
+        None => play_journal(&mut io::empty(), number, out),
     }
 }
 
-fn play_file<R: Files>(
-    rt: &R,
-    name: &[u8],
-    number: usize,
-    out: &mut impl Write,
-    err: &mut impl Write,
-) -> bool {
-    match open(rt, name) {
-        Some(mut file) => write_name(out, err, name) && play_journal(&mut file, number, out, err),
-        None => {
-            report(err, b"pieces: cannot open a file\n");
-            false
-        }
-    }
-}
-
-// Whether all of it was read and written. `number` is that of its first call.
+// The journal of a name, under a line with it. `number` is that of the first call.
 fn play_named<R: Files, I: Read + Drop>(
     rt: &R,
     stdin: &mut Option<I>,
     name: &[u8],
     number: usize,
     out: &mut impl Write,
-    err: &mut impl Write,
-) -> bool {
-    if name.len() == 1 {
-        if name[0] == b'-' {
-            return write_name(out, err, name) && play_stdin(stdin, number, out, err);
-        }
+) -> Result<(), Failure> {
+    if name == b"-".as_slice() {
+        write_name(out, name)?;
+        return play_stdin(stdin, number, out);
     }
-    play_file(rt, name, number, out, err)
+    let mut file = open(rt, name)?;
+    write_name(out, name)?;
+    play_journal(&mut file, number, out)
 }
 
-// Whether there is an argument i, and all of it was read and written. The number of the argument is that
-// of the first call; one that is longer than any name names no file.
-fn play_argument<R: Env + Files, I: Read + Drop>(
-    rt: &R,
-    stdin: &mut Option<I>,
-    i: usize,
-    out: &mut impl Write,
-    err: &mut impl Write,
-) -> bool {
-    let mut name = [0u8; NAME];
-    match rt.arg(i, &mut name) {
-        Ok(length) => play_named(rt, stdin, &name[..length], i, out, err),
-        Err(FillError::TooLong) => play_named(rt, stdin, b"", i, out, err),
-        Err(FillError::NotPresent) => false,
+// The name that is argument i, where there is one. One that is longer than any name names no file.
+fn name_of<'a>(rt: &impl Env, i: usize, place: &'a mut [u8; NAME]) -> Option<&'a [u8]> {
+    match rt.arg(i, place) {
+        Ok(length) => Some(&place[..length]),
+        Err(FillError::TooLong) => Some(b""),
+        Err(FillError::NotPresent) => None,
     }
 }
 
-// A failure ends it.
+// The number of an argument is that of its first call. A failure ends the program.
 fn main(rt: HostRuntime) {
     let mut stdin = Some(rt.stdin());
     let mut out = rt.stdout();
     let mut err = rt.stderr();
+    let mut place = [0u8; NAME];
     for i in 1..usize::MAX {
-        if !play_argument(&rt, &mut stdin, i, &mut out, &mut err) {
+        let Some(name) = name_of(&rt, i, &mut place) else {
+            return;
+        };
+        if let Err(failure) = play_named(&rt, &mut stdin, name, i, &mut out) {
+            let _ = writeln!(err, "pieces: {failure}");
             return;
         }
     }

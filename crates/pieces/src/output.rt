@@ -1,41 +1,36 @@
-// What is written: to standard output (`out`) the text, to standard error (`err`) what went wrong.
+// What is written: to standard output (`out`) the text, to standard error why the program ends before its
+// last journal.
+//
+// Much of this file and of `main` stands in crates/journal too: around a call of the system it promises
+// nothing, so no library holds it (docs/DECISIONS.md).
+use std::fmt;
 use std::io::Write;
 
-pub(crate) fn report(err: &mut impl Write, line: &[u8]) {
-    let _ = err.write_all(line);
+// Why it ends.
+#[derive(Clone, Copy)]
+pub(crate) enum Failure {
+    Unopened,
+    TooLong,
+    Unwritten,
 }
 
-fn write(out: &mut impl Write, err: &mut impl Write, bytes: &[u8]) -> bool {
-    let ok = out.write_all(bytes).is_ok();
-    if !ok {
-        report(err, b"pieces: cannot write\n");
+impl fmt::Display for Failure {
+    fn fmt<W: fmt::Write>(&self, f: &mut fmt::Formatter<W>) -> fmt::Result {
+        f.write_str(match self {
+            Failure::Unopened => "cannot open a file",
+            Failure::TooLong => "too long a journal",
+            Failure::Unwritten => "cannot write",
+        })
     }
-    ok
 }
 
-// The first `used` bytes of a text.
-pub(crate) fn write_first(
-    out: &mut impl Write,
-    err: &mut impl Write,
-    text: &[u8],
-    used: usize,
-) -> bool {
-    if text.len() < used {
-        return false;
-    }
-    if used == 0 {
-        return true;
-    }
-    write(out, err, &text[0..used])
+pub(crate) fn write(out: &mut impl Write, bytes: &[u8]) -> Result<(), Failure> {
+    out.write_all(bytes).map_err(|_| Failure::Unwritten)
 }
 
 // The line above a journal.
-pub(crate) fn write_name(out: &mut impl Write, err: &mut impl Write, name: &[u8]) -> bool {
-    if !write(out, err, b"== ") {
-        return false;
-    }
-    if !write(out, err, name) {
-        return false;
-    }
-    write(out, err, b"\n")
+pub(crate) fn write_name(out: &mut impl Write, name: &[u8]) -> Result<(), Failure> {
+    write(out, b"== ")?;
+    write(out, name)?;
+    write(out, b"\n")
 }

@@ -1,8 +1,9 @@
 -- One replica of a unit is changed in the arrays, and no other.
-use Prim.Native.Nat.{ℕ, zero, suc, ◌+◌, ◌*◌, ◌-◌, ◌<◌}
+use Prim.Native.Nat.{ℕ, zero, suc, ◌+◌, ◌*◌, ◌-◌, ◌≤◌, ◌<◌}
 use mathlib.Core.Path.{◌≡◌, refl, ◌∙◌}
 use mathlib.Core.Logic.{◌≢◌}
 use mathlib.Core.List.{List, [], ◌∷◌, ◌++◌}
+use native.Mathlib.Nat.{mul-suc, mul-le-mul_left}
 use native.Mathlib.Omega.{arith}
 use lib.Dec.{eqb}
 use lib.ListN.{length, get_or, set, drop, length-take, length-drop}
@@ -17,11 +18,9 @@ use Rattle.rules.specs.declared.Settings.{Settings}
 use Rattle.question.proofs.Tests.{case}
 use Rattle.laws.proofs.Queues.{fun_ext}
 use Rattle.state.specs.State.{part_at}
-use Rattle.state.proofs.Parts.{part-set, part-set_other, part-lent, part_back, part_others}
-use Rattle.queue.specs.Row.{pending_of}
+use Rattle.state.proofs.Parts.{part-lent, part_back, part_others}
 use Rattle.queue.specs.Queue.{places_in, queues_in}
-use Rattle.queue.proofs.Rows.{places-length, place_set}
-use Rattle.delivery.proofs.Added.{added}
+use Rattle.queue.proofs.Rows.{places-length}
 use Rattle.step.specs.Output.{state_in}
 use Rattle.transcript.specs.Journal.{replaced}
 use Rattle.playback.specs.Arrays.{Arrays, arrays, state_at, replica_at}
@@ -50,10 +49,10 @@ module _ (u : Settings) (old next : Arrays) (i : ℕ) (here : i < 7) (s : State)
           (λ e. rw (e, others j (omega (arith, eqb-false (suc j) (suc i) e))))
 
 -- nothing has changed
-pub replica-kept : (u : Settings) (a : Arrays) (i : ℕ) → i < 7 → replica_at u a ≡ replaced (suc i) (replica_at u a (suc i)) (replica_at u a)
-replica-kept u a i here = rw (replica_is u a i here) (replica-changed u a a i here (state_at u a i) refl (λ j apart. refl))
+pub replica-kept : (u : Settings) (a : Arrays) (i : ℕ) → i < 7 → replica_at u a ≡ replaced (suc i) (state_at u a i) (replica_at u a)
+replica-kept u a i here = replica-changed u a a i here (state_at u a i) refl (λ j apart. refl)
 
--- ── a request more ──
+-- ── a part of each array lent ──
 
 -- a replica has sixty-four places
 pub replica-long : (i : ℕ) (pending : List (List ℕ)) → i < 7 → length pending ≡ 448 → length (places_in (part_at 64 i pending)) ≡ 64
@@ -64,84 +63,59 @@ replica-long i pending here long =
 pub part_at_lem : {A : Type 0} (width i : ℕ) (l : List A) (n : ℕ) (d : A) → n < width → get_or (part_at width i l) n d ≡ get_or l (width * i + n) d
 part_at_lem width i l n d h = get_or-take width (drop (width * i) l) n d h ∙ get_or-drop (width * i) l n d
 
-module _ (u : Settings) (old : Arrays) (i g : ℕ) (request : Request) (at : LocalTime) (row : List ℕ)
-    (long : length old.pending ≡ 448) (four : length old.counts ≡ 28) (seven : length old.lasts ≡ 7) (here : i < 7) (small : g < 4)
-    (named : request.group ≡ suc g) (room : get_or old.counts (4 * i + g) 0 < 16) (held : pending_of row ≡ record { request = request; arrival = at }) where
-  abbrev n : ℕ
-  n = get_or old.counts (4 * i + g) 0
+-- a replica's part of an array, and the array with another one there
+abbrev pub lent : {A : Type 0} → ℕ → ℕ → List A → List A
+lent width i l = mid_of (width * i) (width * i + width - width * i) l
 
-  abbrev next : Arrays
-  next = arrays (set old.pending (16 * (4 * i + g) + n) row) (set old.counts (4 * i + g) (n + 1)) old.variables old.writes (set old.lasts i at.0)
+abbrev pub returned : {A : Type 0} → ℕ → ℕ → List A → List A → List A
+returned width i l part = put_mid (width * i) (width * i + width - width * i) l part
 
-  at_row : 16 * (4 * i + g) + n ≡ 64 * i + (16 * g + n)
-  at_row = omega arith
+module _ {A : Type 0} (width i : ℕ) (l : List A) (seven : length l ≡ width * 7) (here : i < 7) where
+  ends : width * i + width ≤ length l
+  ends = let more : suc i ≤ 7 = omega arith in omega (arith, mul-le-mul_left width more, mul-suc width i)
 
-  counted : get_or (part_at 4 i old.counts) g 0 ≡ n
-  counted = part_at_lem 4 i old.counts g 0 small
+  pub lent-is : lent width i l ≡ part_at width i l
+  lent-is = part-lent width i l (width * i) (width * i + width) (omega (arith, ends)) (omega (arith, ends))
 
-  rows : part_at 64 i next.pending ≡ set (part_at 64 i old.pending) (16 * g + n) row
-  rows = rw at_row (part-set 64 i old.pending (16 * g + n) row (omega arith))
+  pub lent-long : length (lent width i l) ≡ width
+  lent-long = rw lent-is (omega (arith, ends, length-take width (drop (width * i) l), length-drop (width * i) l))
 
-  queues : queues_in (part_at 64 i next.pending) (part_at 4 i next.counts)
-      ≡ replace (suc g) (queues_in (part_at 64 i old.pending) (part_at 4 i old.counts) (suc g) ++ (record { request = request; arrival = at } ∷ []))
-      (queues_in (part_at 64 i old.pending) (part_at 4 i old.counts))
-  queues =
-      let all = part_at 64 i old.pending in
-      let counts = part_at 4 i old.counts in
-      let some = length-take 4 (drop (4 * i) old.counts) in
-      let one = added (places_in all) counts g (pending_of row)
-      (replica-long i old.pending here long)
-      (omega (arith, some, length-drop (4 * i) old.counts)) small (omega (arith, counted)) in
-      rw (rows, part-set 4 i old.counts g (n + 1) small, place_set all (16 * g + n) row, ← held) (rw counted at one)
+  module _ (part : List A) (same : length part ≡ length (lent width i l)) where
+    pub returned-is : part_at width i (returned width i l part) ≡ part
+    returned-is = part_back width i l (width * i) (width * i + width) (omega (arith, ends)) (omega (arith, ends)) part same
 
-  pub arrays-arrive : replica_at u next ≡ replaced (suc i) (arrive (replica_at u old (suc i)) request at) (replica_at u old)
-  arrays-arrive =
-      rw (replica_is u old i here) (replica-changed u old next i here (arrive (state_at u old i) request at)
-      (state_is u (suc i) (get_or-set_same old.lasts i at.0 0 (omega arith)) (rw (← named) at queues) refl refl)
-      (λ j apart.
-      let rows_other : part_at 64 j next.pending ≡ part_at 64 j old.pending = rw at_row (part-set_other 64 i old.pending (16 * g + n) row (omega arith) j apart) in
-      state_is u (suc j) (get_or-set_other old.lasts i j at.0 0 apart) (rw (rows_other, part-set_other 4 i old.counts g (n + 1) small j apart)) refl refl))
+    pub returned-others : (j : ℕ) → j ≢ i → part_at width j (returned width i l part) ≡ part_at width j l
+    returned-others = part_others width i l (width * i) (width * i + width) (omega (arith, ends)) (omega (arith, ends)) part same
 
--- ── parts lent ──
+-- the rows and counts of a replica come back from a delivery
+module _ (u : Settings) (old : Arrays) (i : ℕ) (here : i < 7) (long : length old.pending ≡ 448) (four : length old.counts ≡ 28) (last : length old.lasts ≡ 7)
+    (rows : List (List ℕ)) (counts : List ℕ) (r : length rows ≡ length (lent 64 i old.pending)) (c : length counts ≡ length (lent 4 i old.counts)) where
+  pub returned-arrive : (request : Request) (at : LocalTime) → let queues = queues_in (lent 64 i old.pending) (lent 4 i old.counts) in
+      queues_in rows counts ≡ replace request.group (queues request.group ++ (record { request = request; arrival = at } ∷ [])) queues
+      → replica_at u (arrays (returned 64 i old.pending rows) (returned 4 i old.counts counts) old.variables old.writes (set old.lasts i at.0))
+      ≡ replaced (suc i) (arrive (state_at u old i) request at) (replica_at u old)
+  returned-arrive request at e =
+      let one = rw (lent-is 64 i old.pending long here, lent-is 4 i old.counts four here) at e in
+      (replica-changed u old _ i here (arrive (state_at u old i) request at)
+      (state_is u (suc i) (get_or-set_same old.lasts i at.0 0 (omega arith)) (rw (returned-is 64 i old.pending long here rows r, returned-is 4 i old.counts four here counts c) one) refl refl)
+      (λ j apart. state_is u (suc j) (get_or-set_other old.lasts i j at.0 0 apart)
+      (rw (returned-others 64 i old.pending long here rows r j apart, returned-others 4 i old.counts four here counts c j apart)) refl refl))
 
-module _ (u : Settings) (old : Arrays) (i : ℕ) (here : i < 7)
-    (long : length old.pending ≡ 448) (four : length old.counts ≡ 28) (wide : length old.variables ≡ 1792) (seven : length old.writes ≡ 7) (last : length old.lasts ≡ 7)
-    (rows : List (List ℕ)) (counts variables : List ℕ) (writes at : ℕ) where
-  abbrev lent_rows : List (List ℕ)
-  lent_rows = mid_of (64 * i) (64 * i + 64 - 64 * i) old.pending
+-- and all of it from a step
+module _ (u : Settings) (old : Arrays) (i : ℕ) (here : i < 7) (long : length old.pending ≡ 448) (four : length old.counts ≡ 28) (wide : length old.variables ≡ 1792) where
+  pub lent-replica : state_in u (suc i) (record { 0 = get_or old.lasts i 0 }) (queues_in (lent 64 i old.pending) (lent 4 i old.counts)) (get_or old.writes i 0) (lent 256 i old.variables)
+      ≡ replica_at u old (suc i)
+  lent-replica = rw (replica_is u old i here, lent-is 64 i old.pending long here, lent-is 4 i old.counts four here, lent-is 256 i old.variables wide here)
 
-  abbrev lent_counts : List ℕ
-  lent_counts = mid_of (4 * i) (4 * i + 4 - 4 * i) old.counts
-
-  abbrev lent_variables : List ℕ
-  lent_variables = mid_of (256 * i) (256 * i + 256 - 256 * i) old.variables
-
-  -- what is lent is the replica
-  pub arrays-lent : state_in u (suc i) (record { 0 = get_or old.lasts i 0 }) (queues_in lent_rows lent_counts) (get_or old.writes i 0) lent_variables ≡ replica_at u old (suc i)
-  arrays-lent =
-      rw (
-        replica_is u old i here,
-        part-lent 64 i old.pending (64 * i) (64 * i + 64) (omega arith) (omega arith),
-        part-lent 4 i old.counts (4 * i) (4 * i + 4) (omega arith) (omega arith),
-        part-lent 256 i old.variables (256 * i) (256 * i + 256) (omega arith) (omega arith),
-      )
-
-  abbrev back : Arrays
-  back =
-      arrays (put_mid (64 * i) (64 * i + 64 - 64 * i) old.pending rows) (put_mid (4 * i) (4 * i + 4 - 4 * i) old.counts counts)
-      (put_mid (256 * i) (256 * i + 256 - 256 * i) old.variables variables) (set old.writes i writes) (set old.lasts i at)
-
-  module _ (r : length rows ≡ length lent_rows) (c : length counts ≡ length lent_counts) (v : length variables ≡ length lent_variables) where
-    -- and what comes back is
-    pub arrays_back : (s : State) → state_in u (suc i) (record { 0 = at }) (queues_in rows counts) writes variables ≡ s
-        → replica_at u back ≡ replaced (suc i) s (replica_at u old)
-    arrays_back s e =
-        let pb = part_back 64 i old.pending (64 * i) (64 * i + 64) (omega arith) (omega arith) rows r in
-        let cb = part_back 4 i old.counts (4 * i) (4 * i + 4) (omega arith) (omega arith) counts c in
-        let vb = part_back 256 i old.variables (256 * i) (256 * i + 256) (omega arith) (omega arith) variables v in
-        let po = part_others 64 i old.pending (64 * i) (64 * i + 64) (omega arith) (omega arith) rows r in
-        let co = part_others 4 i old.counts (4 * i) (4 * i + 4) (omega arith) (omega arith) counts c in
-        let vo = part_others 256 i old.variables (256 * i) (256 * i + 256) (omega arith) (omega arith) variables v in
-        replica-changed u old back i here s
-        (state_is u (suc i) (get_or-set_same old.lasts i at 0 (omega arith)) (rw (pb, cb)) (get_or-set_same old.writes i writes 0 (omega arith)) vb ∙ e)
-        (λ j apart. state_is u (suc j) (get_or-set_other old.lasts i j at 0 apart) (rw (po j apart, co j apart)) (get_or-set_other old.writes i j writes 0 apart) (vo j apart))
+  module _ (seven : length old.writes ≡ 7) (last : length old.lasts ≡ 7) (rows : List (List ℕ)) (counts variables : List ℕ) (writes at : ℕ)
+      (r : length rows ≡ length (lent 64 i old.pending)) (c : length counts ≡ length (lent 4 i old.counts)) (v : length variables ≡ length (lent 256 i old.variables)) where
+    pub returned-replica : (s : State) → state_in u (suc i) (record { 0 = at }) (queues_in rows counts) writes variables ≡ s →
+        replica_at u (arrays (returned 64 i old.pending rows) (returned 4 i old.counts counts) (returned 256 i old.variables variables) (set old.writes i writes) (set old.lasts i at))
+        ≡ replaced (suc i) s (replica_at u old)
+    returned-replica s e =
+        replica-changed u old _ i here s
+        (state_is u (suc i) (get_or-set_same old.lasts i at 0 (omega arith)) (rw (returned-is 64 i old.pending long here rows r, returned-is 4 i old.counts four here counts c))
+        (get_or-set_same old.writes i writes 0 (omega arith)) (returned-is 256 i old.variables wide here variables v) ∙ e)
+        (λ j apart. state_is u (suc j) (get_or-set_other old.lasts i j at 0 apart)
+        (rw (returned-others 64 i old.pending long here rows r j apart, returned-others 4 i old.counts four here counts c j apart))
+        (get_or-set_other old.writes i j writes 0 apart) (returned-others 256 i old.variables wide here variables v j apart))

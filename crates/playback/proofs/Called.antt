@@ -13,6 +13,7 @@ use Rattle.playback.specs.Arrays.{Arrays, is_set_up, unit_in}
 use Rattle.playback.specs.Calls.{AsPlayed}
 use Rattle.playback.specs.declared.block.Block.{Block}
 use Rattle.playback.specs.declared.stage.Stage.{Stage}
+use Rattle.playback.specs.declared.unit.Replicas.{Replicas}
 use Rattle.playback.proofs.block.play_block.Reads as block-contract
 use Rattle.playback.proofs.end.play_end.Reads as end-contract
 
@@ -24,26 +25,32 @@ holding r x = record { ref_ptr = r.ref_ptr; ghost_name = r.ghost_name; now = x }
 abbrev pub showing : {A : Type 0} → Bor A → A → Bor A
 showing r x = record { ref_ptr = r.ref_ptr; now = x }
 
+-- and of the arrays that replicas are lent
+abbrev pub standing : Replicas → Arrays → Replicas
+standing r a = record {
+  pending = holding r.pending a.pending;
+  counts = holding r.counts a.counts;
+  variables = holding r.variables a.variables;
+  writes = holding r.writes a.writes;
+  lasts = holding r.lasts a.lasts;
+}
+
 -- the arrays held `before` and the text `text`; afterwards they hold `after` and `text'`
 pub record PlaysBlock (stage : Stage) (before : Arrays) (block text : List ℕ) (b : Block) (after : Arrays) (text' : List ℕ) : Type 0 where
-  pub lifetimes : Lfts 7
+  pub lifetimes : Lfts 4
   pub lent : Bor (List ℕ)
-  pub pending : MutBor (List (List ℕ))
-  pub counts : MutBor (List ℕ)
-  pub variables : MutBor (List ℕ)
-  pub writes : MutBor (List ℕ)
-  pub lasts : MutBor (List ℕ)
+  pub replicas : MutBor Replicas
   pub page : MutBor (List ℕ)
   pub learnt :
       block-contract.Learnt lifetimes
-      (stage, (showing lent block, (holding pending before.pending, (holding counts before.counts, (holding variables before.variables, (holding writes before.writes, (holding lasts before.lasts, (holding page text, tt)))))))) b
-      (stage, (showing lent block, (holding pending after.pending, (holding counts after.counts, (holding variables after.variables, (holding writes after.writes, (holding lasts after.lasts, (holding page text', tt))))))))
+      (stage, (showing lent block, (holding replicas (standing replicas.now before), (holding page text, tt)))) b
+      (stage, (showing lent block, (holding replicas (standing replicas.now after), (holding page text', tt))))
 
 pub plays_mean : {stage : Stage} {before : Arrays} {block text : List ℕ} {b : Block} {after : Arrays} {text' : List ℕ}
     → PlaysBlock stage before block text b after text'
     → AsPlayed (play_block (length text) (unit_in stage before) block) (unit_in b.stage after) b.taken (page text 0) (page text' b.used)
     × (is_set_up b.stage ≡ false → after ≡ before)
-plays_mean c = (c.learnt.0, c.learnt.1)
+plays_mean c = c.learnt.1
 
 -- the text held `text`, and holds `text'` afterwards
 pub record PlaysEnd (stage : Stage) (a : Arrays) (rest text : List ℕ) (n : ℕ) (text' : List ℕ) : Type 0 where

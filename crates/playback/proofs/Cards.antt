@@ -10,9 +10,10 @@ use lib.Dec.{eqb}
 use lib.ListN.{length, get_or}
 use borrow.Author.Tests.{ne_eqb}
 use Rattle.text.specs.Text.{joined, line}
-use Rattle.text.specs.Page.{Page, put_text}
+use Rattle.text.specs.Writer.{put}
+use Rattle.text.specs.declared.Writer.{Writer}
 use Rattle.text.proofs.Lines.{joined-append}
-use Rattle.text.proofs.Put.{put-put}
+use Rattle.text.proofs.Put.{puts}
 use Rattle.rules.specs.Lists.{up_to}
 use Rattle.rules.specs.declared.Settings.{Settings}
 use Rattle.rules.specs.Replica.{State}
@@ -32,14 +33,14 @@ module _ (u : Settings) (a : Arrays) where
   card_is : (i : ℕ) → i < 7 → card_line (replica_at u a (suc i)) ≡ line card_word (suc i ∷ get_or a.variables (256 * i) 0 ∷ get_or a.writes i 0 ∷ [])
   card_is i here = rw (replica_is u a i here, part_at_lem 256 i a.variables 0 0 (omega arith), add-zero (256 * i))
 
-  pub cards_next : (p : Page) (i : ℕ) → i < 7
-      → put_text (put_text p (cards i)) (line card_word ((i + 1) ∷ get_or a.variables (256 * i) 0 ∷ get_or a.writes i 0 ∷ [])) ≡ put_text p (cards (i + 1))
-  cards_next p i here =
+  pub cards_next : (w : Writer) (i : ℕ) → i < 7
+      → put (put w (cards i)) (line card_word ((i + 1) ∷ get_or a.variables (256 * i) 0 ∷ get_or a.writes i 0 ∷ [])) ≡ put w (cards (i + 1))
+  cards_next w i here =
       let front = map (replica_at u a) (up_to i) in
       let one = replica_at u a (suc i) in
       let all : cards (suc i) ≡ cards i ++ card_line one =
       rw (map-append (replica_at u a) (up_to i) (suc i ∷ []), map-append card_line front (one ∷ []), joined-append (map card_line front) (card_line one ∷ []), append-nil (card_line one)) in
-      rw (add-one i, all, ← card_is i here) (put-put p (cards i) (card_line one))
+      rw (add-one i, all, ← card_is i here) (puts w (cards i) (card_line one))
 
 -- ── the end ──
 

@@ -2,6 +2,5 @@ pub mod Arrays
 pub mod Called
 pub mod Cards
 pub mod Loop
-pub mod Moved
 pub mod New
 pub mod Record

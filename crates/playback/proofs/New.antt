@@ -1,10 +1,11 @@
 -- The replicas that a setup makes are new.
 use Prim.Native.Nat.{ℕ, zero, suc, ◌+◌, ◌*◌, ◌-◌, ◌≤◌}
-use mathlib.Core.Path.{◌≡◌, refl, ap}
-use mathlib.Core.List.{List, ◌∷◌}
+use mathlib.Core.Path.{◌≡◌, refl}
+use mathlib.Core.List.{List}
 use native.Mathlib.Omega.{arith}
 use lib.Dec.{ltb}
-use lib.ListN.{take, drop, replicate, get_or-replicate}
+use lib.ListN.{replicate, get_or-replicate}
+use Rattle.std.proofs.lemmas.List.{take-replicate, drop-replicate}
 use borrow.Author.Tests.{ltb-true}
 use Rattle.question.proofs.Tests.{case}
 use Rattle.rules.specs.declared.Settings.{Settings}
@@ -15,19 +16,9 @@ use Rattle.state.proofs.Queues.{queues_new}
 use Rattle.queue.specs.Queue.{places_in}
 use Rattle.playback.specs.Arrays.{Arrays, arrays, replica_at}
 
-drop_same : (a n : ℕ) → drop {A = ℕ} a (replicate n 0) ≡ replicate (n - a) 0
-drop_same zero n = let z : n - zero ≡ n = omega arith in rw z
-drop_same (suc a) zero = let z : zero - suc a ≡ zero = omega arith in rw z
-drop_same (suc a) (suc n) = let z : suc n - suc a ≡ n - a = omega arith in rw z (drop_same a n)
-
-take_same : (a n : ℕ) → a ≤ n → take {A = ℕ} a (replicate n 0) ≡ replicate a 0
-take_same zero n h = refl
-take_same (suc a) zero h = absurd (omega arith)
-take_same (suc a) (suc n) h = ap (λ rest. 0 ∷ rest) (take_same a n (omega arith))
-
 -- a part of zeros
 part_new : (width i n : ℕ) → width * i + width ≤ n → part_at {A = ℕ} width i (replicate n 0) ≡ replicate width 0
-part_new width i n h = rw (drop_same (width * i) n) (take_same width (n - width * i) (omega arith))
+part_new width i n h = rw (drop-replicate {X = ℕ} (width * i) n 0) (take-replicate {X = ℕ} width (n - width * i) 0 (omega arith))
 
 -- whatever the rows hold: of no group any are counted
 abbrev pub cleared : List (List ℕ) → Arrays

@@ -1,13 +1,8 @@
--- One record after the setup: its replica is the unit's, the bytes of its request, and what it prints. Assumes nothing.
-use Prim.Native.Nat.{ℕ, ◌+◌, ◌*◌, ◌-◌, ◌≤◌, min}
-use mathlib.Core.Path.{◌≡◌, refl, sym, ◌∙◌}
-use mathlib.Core.Bool.{Bool, true, false}
+-- One record after the setup: its replica is the unit's, and what it prints. Assumes nothing.
+use Prim.Native.Nat.{ℕ, ◌+◌, ◌*◌, ◌≤◌}
+use mathlib.Core.Path.{◌≡◌, refl}
 use mathlib.Core.List.{List, []}
-use lib.Dec.{eqb, leb}
-use lib.ListN.{length, take, drop, length-drop, drop_of_length-le}
-use lib.Seq.{take_all, take-nil}
-use native.Mathlib.Omega.{arith}
-use borrow.Author.Tests.{leb-true, leb-false}
+use lib.Dec.{eqb}
 use Rattle.question.specs.Question.{Answer, given, refused, worked, after, verdict, map_answer}
 use Rattle.question.proofs.Questions.{ask-all_yes, ask_through, same_given}
 use Rattle.question.proofs.Tests.{case, within-true}
@@ -29,38 +24,6 @@ entry_there k bytes {e} read =
     let named : replica_for (entry_in bytes) ≡ replica_of bytes = case (eqb (kind_of bytes) 2) (λ d. rw d) (λ d. rw d) in
     rw (← same, named) there
 
--- ── the request ──
-
--- a record's bytes 16 to 39, as far as it has them
-module _ (bytes : List ℕ) where
-  abbrev start : ℕ
-  start = min (length bytes) 16
-
-  abbrev end : ℕ
-  end = min (length bytes) 40
-
-  long : (b : Bool) → leb (length bytes) 40 ≡ b → take (end - 16) (drop 16 bytes) ≡ take 24 (drop 16 bytes)
-  long true e =
-      let short = leb-true (length bytes) 40 e in
-      let rest = length-drop 16 bytes in
-      take_all (end - 16) (drop 16 bytes) (omega (arith, rest)) ∙ sym (take_all 24 (drop 16 bytes) (omega (arith, rest)))
-  long false e =
-      let past = leb-false (length bytes) 40 e in
-      let all : end - 16 ≡ 24 = omega arith in
-      rw all
-
-  part : (b : Bool) → leb (length bytes) 16 ≡ b → take (end - start) (drop start bytes) ≡ take 24 (drop 16 bytes)
-  part true e =
-      let short = leb-true (length bytes) 16 e in
-      rw (drop_of_length-le bytes {i = start} (omega arith), drop_of_length-le bytes {i = 16} short, take-nil (end - start), take-nil 24)
-  part false e =
-      let past = leb-false (length bytes) 16 e in
-      let first : start ≡ 16 = omega arith in
-      rw first (long (leb (length bytes) 40) refl)
-
-  pub request-part : (from to : ℕ) → from ≡ start → to ≡ end → take (to - from) (drop from bytes) ≡ take 24 (drop 16 bytes)
-  request-part from to e f = rw (e, f) (part (leb (length bytes) 16) refl)
-
 -- ── what is left, and what is printed ──
 
 -- a delivery sends nothing
@@ -77,14 +40,12 @@ pub done-text : (u : Settings) (place : ℕ) (output : List ℕ) (answer : Answe
     → lines_of u place (sent_nothing output answer) ≡ []
 unfolding messages_in
 done-text u place output (given t) e = refl
-done-text u place output (refused number) e = absurd (let z : ◌≡◌ {A = ℕ} 0 1 = cc in omega arith)
+done-text u place output (refused number) e = cc
 
 pub refused-text : (u : Settings) (place : ℕ) (output : List ℕ) (answer : Answer State) {number : ℕ} → refused number ≡ verdict answer
     → refusal_line place number ≡ lines_of u place (sent_nothing output answer)
-refused-text u place output (given t) e = absurd (let z : ◌≡◌ {A = ℕ} 0 1 = cc in omega arith)
-refused-text u place output (refused other) {number} e =
-    let same : number ≡ other = cc in
-    rw same
+refused-text u place output (given t) e = cc
+refused-text u place output (refused other) {number} e = cc
 
 -- what the answer and the records of a step print is what the journal's definition prints of it
 pub stepped-text : (u : Settings) (place : ℕ) (output : List ℕ) (answer : Answer Stepped) →

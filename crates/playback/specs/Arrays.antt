@@ -1,5 +1,5 @@
 -- The unit that the arrays lent to a call stand for: seven replicas side by side, of which the first 2k + 1 are the unit's.
-use Rattle.std.specs.Prelude.{ℕ, zero, suc, Bool, false, cond, List, leb, ltb, get_or}
+use Rattle.std.specs.Prelude.{ℕ, zero, suc, ◌≡◌, Bool, false, cond, List, leb, ltb, get_or}
 use Rattle.limits.specs.Limits.{max_k, max_groups, all_places, variable_count, max_replicas}
 use Rattle.rules.specs.declared.Settings.{Settings}
 use Rattle.rules.specs.Replica.{State, new_state}
@@ -9,6 +9,7 @@ use Rattle.step.specs.Output.{state_in}
 use Rattle.transcript.specs.Journal.{Unit, fresh, playing, stopped}
 use Rattle.playback.specs.declared.stage.Stage.{Stage}
 use Rattle.playback.specs.declared.stage.Stage.TheVariants.{First, Playing, Stopped}
+use Rattle.playback.specs.declared.unit.Replicas.{Replicas}
 
 -- of each replica 64 rows, four counts, 256 variables, the writes performed and the last accepted local time; rows at and past a count are free
 pub record Arrays : Type 0 where
@@ -21,6 +22,19 @@ pub record Arrays : Type 0 where
 abbrev pub arrays : List (List ℕ) → List ℕ → List ℕ → List ℕ → List ℕ → Arrays
 arrays pending counts variables writes lasts =
     record { pending = pending; counts = counts; variables = variables; writes = writes; lasts = lasts }
+
+-- what stands in arrays that are lent
+abbrev pub arrays_of : Replicas → Arrays
+arrays_of r = arrays r.pending.now r.counts.now r.variables.now r.writes.now r.lasts.now
+
+-- the arrays that are lent are the same ones, whatever stands in them
+abbrev pub SameArrays : Replicas → Replicas → Type 0
+SameArrays old new =
+    (new.pending.ghost_name ≡ old.pending.ghost_name)
+    × (new.counts.ghost_name ≡ old.counts.ghost_name)
+    × (new.variables.ghost_name ≡ old.variables.ghost_name)
+    × (new.writes.ghost_name ≡ old.writes.ghost_name)
+    × (new.lasts.ghost_name ≡ old.lasts.ghost_name)
 
 -- the replica at a place, from 0
 abbrev pub state_at : Settings → Arrays → ℕ → State

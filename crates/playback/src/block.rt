@@ -1,21 +1,21 @@
 // A block of records played on a whole unit.
-ghost use Rattle.std.specs.Prelude.{◌≡◌, false, ◌&&◌, ◌≤◌, leb, ltb, length};
-ghost use Rattle.limits.specs.Limits.{max_k, entry_size, max_place, max_replicas, unit_places, unit_queues, unit_variables};
+ghost use Rattle.std.specs.Prelude.{◌≡◌, true, false, ◌&&◌, ◌-◌, ◌≤◌, leb, ltb, length};
+ghost use Rattle.limits.specs.Limits.{max_k, entry_size, max_place};
 ghost use Rattle.text.specs.Page.{page};
 ghost use Rattle.transcript.specs.Journal.{fresh, playing};
 ghost use Rattle.transcript.specs.Blocks.{lines_size, play_block};
-ghost use Rattle.playback.specs.Arrays.{arrays, replica_at, is_set_up, unit_in};
-ghost use Rattle.playback.specs.Calls.{AsPlayed};
+ghost use Rattle.playback.specs.Arrays.{arrays_of, replica_at, is_set_up, unit_in, SameArrays};
+ghost use Rattle.playback.specs.Calls.{AsPlayed, AsWritten};
 
 use crate::play::play_record;
 use crate::stage::Stage;
-use entry::SetupRead;
+use crate::unit::Replicas;
 use limits::{
-    ENTRY, MAX_K, MAX_PLACE, MAX_REPLICAS, MAX_SENT, OUTPUT, UNIT_PLACES, UNIT_QUEUES,
-    UNIT_VARIABLES,
+    ENTRY, MAX_K, MAX_PLACE, MAX_REPLICAS, MAX_SENT, OUTPUT, UNIT_QUEUES, UNIT_VARIABLES,
 };
 use lines::put_refusal;
 use rules::Settings;
+use text::Writer;
 
 // The most that the lines of one record take: 132 bytes for each message that a step may send.
 const LINES: usize = MAX_SENT * 132;
@@ -29,154 +29,105 @@ pub struct Block {
     pub used: usize,
 }
 
-// The same of the records after the setup; the next one has this place.
-#[derive(Clone, Copy)]
-pub struct Rest {
-    pub place: u64,
-    pub taken: usize,
-    pub used: usize,
-}
-
-// A whole record is left, there is room for whatever it prints, and its place can be counted.
-fn goes_on(left: usize, room: usize, place: u64) -> bool
-    ensures { result ≡ (leb entry_size left && leb lines_size room) && ltb place max_place }
+// There is room for whatever one more record prints, and its place can be counted.
+fn goes_on(room: usize, place: u64) -> bool
+    ensures { result ≡ leb lines_size room && ltb place max_place }
 {
-    (ENTRY <= left) & (LINES <= room) & (place < MAX_PLACE)
+    (LINES <= room) & (place < MAX_PLACE)
 }
 
-// The records after the setup.
+// The records after the setup, of which the first has this place: the stage then, and how many bytes were
+// taken. A pair, since how much of the text is used stands in the writer.
 fn play_rest(
     u: Settings,
     first: u64,
     block: &[u8],
-    pending: &mut [[u64; 4]],
-    counts: &mut [usize],
-    variables: &mut [u32],
-    writes: &mut [u64],
-    lasts: &mut [u64],
-    text: &mut [u8],
-) -> Rest
-    requires k_le_max_k { (u.k ≤ max_k) × (length pending.old ≡ unit_places) × (length counts.old ≡ unit_queues) }
-    requires variables_len { (length variables.old ≡ unit_variables) × (length writes.old ≡ max_replicas) × (length lasts.old ≡ max_replicas) }
-    ensures { AsPlayed (play_block (length text.old) (playing u first (replica_at u (arrays pending.old counts.old variables.old writes.old lasts.old))) block.now) (playing u result.place (replica_at u (arrays pending.new counts.new variables.new writes.new lasts.new))) result.taken (page text.old 0) (page text.new result.used) }
+    replicas: &mut Replicas,
+    writer: &mut Writer<'_>,
+) -> (Stage, usize)
+    requires small_k { u.k ≤ max_k }
+    requires used_within { writer.old.used ≤ length writer.old.text.now }
+    ensures same_arrays { SameArrays replicas.old replicas.new }
+    ensures played { AsWritten (play_block (length writer.old.text.now - writer.old.used) (playing u first (replica_at u (arrays_of replicas.old))) block.now) (unit_in result.0 (arrays_of replicas.new)) result.1 writer.old writer.new }
+    ensures set_up { is_set_up result.0 ≡ true }
 {
     let mut output = [0u8; OUTPUT];
     let mut place = first;
     let mut taken: usize = 0;
-    let mut used: usize = 0;
-    while goes_on(block.len() - taken, text.len() - used, place) {
-        let end = taken + ENTRY;
-        used = play_record(
-            u,
-            place,
-            &block[taken..end],
-            pending,
-            counts,
-            variables,
-            writes,
-            lasts,
-            &mut output,
-            text,
-            used,
-        );
-        taken = end;
+    // Place and bytes are counted beside the records: the room or the last place may end them. The proof
+    // calls the loop by its label.
+    'records: for record in block.chunks_exact(ENTRY) {
+        if !goes_on(writer.text.len() - writer.used, place) {
+            break;
+        }
+        play_record(u, place, record, replicas, &mut output, writer);
+        taken += ENTRY;
         place += 1;
     }
-    Rest { place, taken, used }
+    (Stage::Playing(u, place), taken)
 }
 
 // The records from the first on, which sets the unit up: its replicas are new.
-fn play_first(
-    block: &[u8],
-    pending: &mut [[u64; 4]; UNIT_PLACES],
-    counts: &mut [usize; UNIT_QUEUES],
-    variables: &mut [u32; UNIT_VARIABLES],
-    writes: &mut [u64; MAX_REPLICAS],
-    lasts: &mut [u64; MAX_REPLICAS],
-    text: &mut [u8],
-) -> Block
-    ensures played { AsPlayed (play_block (length text.old) fresh block.now) (unit_in result.stage (arrays pending.new counts.new variables.new writes.new lasts.new)) result.taken (page text.old 0) (page text.new result.used) }
-    ensures kept { is_set_up result.stage ≡ false → arrays pending.new counts.new variables.new writes.new lasts.new ≡ arrays pending.old counts.old variables.old writes.old lasts.old }
+fn play_first(block: &[u8], replicas: &mut Replicas, writer: &mut Writer<'_>) -> (Stage, usize)
+    requires used_within { writer.old.used ≤ length writer.old.text.now }
+    ensures same_arrays { SameArrays replicas.old replicas.new }
+    ensures played { AsWritten (play_block (length writer.old.text.now - writer.old.used) fresh block.now) (unit_in result.0 (arrays_of replicas.new)) result.1 writer.old writer.new }
+    ensures kept { is_set_up result.0 ≡ false → arrays_of replicas.new ≡ arrays_of replicas.old }
 {
-    if !goes_on(block.len(), text.len(), 1) {
-        return Block {
-            stage: Stage::First,
-            taken: 0,
-            used: 0,
-        };
+    let Some((setup, rest)) = block.split_at_checked(ENTRY) else {
+        return (Stage::First, 0);
+    };
+    if !goes_on(writer.text.len() - writer.used, 1) {
+        return (Stage::First, 0);
     }
-    match entry::read_setup(&block[0..ENTRY]) {
-        SetupRead::Accepted(u) => {
-            *counts = [0usize; UNIT_QUEUES];
-            *variables = [0u32; UNIT_VARIABLES];
-            *writes = [0u64; MAX_REPLICAS];
-            *lasts = [0u64; MAX_REPLICAS];
-            let r = play_rest(
-                u,
-                2,
-                &block[ENTRY..],
-                pending,
-                counts,
-                variables,
-                writes,
-                lasts,
-                text,
-            );
-            Block {
-                stage: Stage::Playing(u, r.place),
-                taken: ENTRY + r.taken,
-                used: r.used,
-            }
+    match entry::read_setup(setup) {
+        Ok(u) => {
+            *replicas.counts = [0; UNIT_QUEUES];
+            *replicas.variables = [0; UNIT_VARIABLES];
+            *replicas.writes = [0; MAX_REPLICAS];
+            *replicas.lasts = [0; MAX_REPLICAS];
+            let (stage, taken) = play_rest(u, 2, rest, replicas, writer);
+            (stage, ENTRY + taken)
         }
-        SetupRead::Refused(number) => {
-            let used = put_refusal(1, number, text, 0);
-            Block {
-                stage: Stage::Stopped,
-                taken: ENTRY,
-                used,
-            }
+        Err(refusal) => {
+            put_refusal(1, u8::from(refusal), writer);
+            (Stage::Stopped, ENTRY)
         }
+    }
+}
+
+// The records from this stage on. Where no unit is set up then, the arrays are what they were.
+fn play_from(
+    stage: Stage,
+    block: &[u8],
+    replicas: &mut Replicas,
+    writer: &mut Writer<'_>,
+) -> (Stage, usize)
+    requires used_within { writer.old.used ≤ length writer.old.text.now }
+    ensures same_arrays { SameArrays replicas.old replicas.new }
+    ensures played { AsWritten (play_block (length writer.old.text.now - writer.old.used) (unit_in stage (arrays_of replicas.old)) block.now) (unit_in result.0 (arrays_of replicas.new)) result.1 writer.old writer.new }
+    ensures kept { is_set_up result.0 ≡ false → arrays_of replicas.new ≡ arrays_of replicas.old }
+{
+    match stage {
+        Stage::First => play_first(block, replicas, writer),
+        Stage::Playing(u, place) if u.k <= MAX_K => play_rest(u, place, block, replicas, writer),
+        _ => (stage, 0),
     }
 }
 
 // Plays the whole records of a block, one after another, until they are used up or the text has no room
-// for what another may print. Where no unit is set up then, the arrays are what they were.
-pub fn play_block(
-    stage: Stage,
-    block: &[u8],
-    pending: &mut [[u64; 4]; UNIT_PLACES],
-    counts: &mut [usize; UNIT_QUEUES],
-    variables: &mut [u32; UNIT_VARIABLES],
-    writes: &mut [u64; MAX_REPLICAS],
-    lasts: &mut [u64; MAX_REPLICAS],
-    text: &mut [u8],
-) -> Block
-    ensures played { AsPlayed (play_block (length text.old) (unit_in stage (arrays pending.old counts.old variables.old writes.old lasts.old)) block.now) (unit_in result.stage (arrays pending.new counts.new variables.new writes.new lasts.new)) result.taken (page text.old 0) (page text.new result.used) }
-    ensures kept { is_set_up result.stage ≡ false → arrays pending.new counts.new variables.new writes.new lasts.new ≡ arrays pending.old counts.old variables.old writes.old lasts.old }
+// for what another may print.
+#[tactic(auto, unfolding(text::specs::Writer::put))]
+pub fn play_block(stage: Stage, block: &[u8], replicas: &mut Replicas, text: &mut [u8]) -> Block
+    ensures same_arrays { SameArrays replicas.old replicas.new }
+    ensures played { AsPlayed (play_block (length text.old) (unit_in stage (arrays_of replicas.old)) block.now) (unit_in result.stage (arrays_of replicas.new)) result.taken (page text.old 0) (page text.new result.used) }
+    ensures kept { is_set_up result.stage ≡ false → arrays_of replicas.new ≡ arrays_of replicas.old }
 {
-    match stage {
-        Stage::First => play_first(block, pending, counts, variables, writes, lasts, text),
-        Stage::Playing(u, place) => {
-            if MAX_K < u.k {
-                return Block {
-                    stage,
-                    taken: 0,
-                    used: 0,
-                };
-            }
-            let r = play_rest(
-                u, place, block, pending, counts, variables, writes, lasts, text,
-            );
-            Block {
-                stage: Stage::Playing(u, r.place),
-                taken: r.taken,
-                used: r.used,
-            }
-        }
-        Stage::Stopped => Block {
-            stage,
-            taken: 0,
-            used: 0,
-        },
+    let mut writer = Writer { text, used: 0 };
+    let (stage, taken) = play_from(stage, block, replicas, &mut writer);
+    Block {
+        stage,
+        taken,
+        used: writer.used,
     }
 }

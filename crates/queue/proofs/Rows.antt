@@ -1,9 +1,11 @@
 -- A row keeps its request, and what the rows of a queue hold is what stands in its places.
-use Prim.Native.Nat.{ℕ, zero, suc, ◌+◌, ◌*◌, ◌/◌, ◌%◌, ◌<◌, min}
-use mathlib.Core.Path.{◌≡◌, refl, sym, ap}
-use mathlib.Core.List.{List, [], ◌∷◌, map}
-use native.Mathlib.Omega.{arith}
+use Prim.Native.Nat.{ℕ, ◌+◌, ◌*◌, ◌/◌, ◌%◌, ◌≤◌, ◌<◌, min}
+use mathlib.Core.Path.{◌≡◌, sym, ap, ◌∙◌}
+use mathlib.Core.List.{List, ◌++◌}
 use lib.ListN.{length, get_or, set, take, drop, length-map, length-take, get_or-map}
+use borrow.Rule.Slice.PartMut.{put_mid}
+use Rattle.std.proofs.Common.{arith}
+use Rattle.std.proofs.lemmas.List.{map-append, map-set, take-append-le, take-map, drop-map, take_min, take_more, take_more_set}
 use Rattle.rules.specs.declared.Pending.{Pending}
 use Rattle.queue.specs.Row.{row_of, pending_of}
 use Rattle.queue.specs.Queue.{places_in, waiting}
@@ -39,21 +41,6 @@ row_back p hk hg hp hv hx =
 
 -- ── the places that rows stand for ──
 
-map-set : {A B : Type 0} (f : A → B) (l : List A) (i : ℕ) (x : A) → map f (set l i x) ≡ set (map f l) i (f x)
-map-set f [] i x = refl
-map-set f (y ∷ l) zero x = refl
-map-set f (y ∷ l) (suc i) x = ap (λ rest. f y ∷ rest) (map-set f l i x)
-
-map-take : {A B : Type 0} (f : A → B) (n : ℕ) (l : List A) → map f (take n l) ≡ take n (map f l)
-map-take f zero l = refl
-map-take f (suc n) [] = refl
-map-take f (suc n) (x ∷ l) = ap (λ rest. f x ∷ rest) (map-take f n l)
-
-map-drop : {A B : Type 0} (f : A → B) (n : ℕ) (l : List A) → map f (drop n l) ≡ drop n (map f l)
-map-drop f zero l = refl
-map-drop f (suc n) [] = refl
-map-drop f (suc n) (x ∷ l) = map-drop f n l
-
 module _ (rows : List (List ℕ)) where
   pub places-length : length (places_in rows) ≡ length rows
   places-length = length-map rows pending_of
@@ -67,7 +54,29 @@ module _ (rows : List (List ℕ)) where
 
   -- a part of the rows is that part of the places
   pub places-part : (from size : ℕ) → places_in (take size (drop from rows)) ≡ take size (drop from (places_in rows))
-  places-part from size = rw (map-take pending_of size (drop from rows), map-drop pending_of from rows)
+  places-part from size = rw (← take-map pending_of size (drop from rows), ← drop-map pending_of from rows)
 
   pub waiting-length : (count : ℕ) → length (waiting rows count) ≡ min count (length rows)
   waiting-length count = rw (← places-length) (length-take count (places_in rows))
+
+  -- rows that come back in the place of others
+  pub places_put : (from size : ℕ) (part : List (List ℕ)) → places_in (put_mid from size rows part) ≡ put_mid from size (places_in rows) (places_in part)
+  places_put from size part = rw (map-append pending_of (take from rows) (part ++ drop size (drop from rows)), map-append pending_of part (drop size (drop from rows)), ← take-map pending_of from rows, ← drop-map pending_of size (drop from rows), ← drop-map pending_of from rows)
+
+-- one more element written from the front
+pub written_next : {A : Type 0} (l m : List A) (i : ℕ) (x d : A) → i < length l → i < length m → take i l ≡ take i m → x ≡ get_or m i d
+    → take (i + 1) (set l i x) ≡ take (i + 1) m
+written_next l m i x d h k e f = take_more_set l i x h ∙ (rw (e, f) (sym (take_more m i d k)))
+
+-- a slice of rows that are all pending, and the first of the rows
+pub places-taken : (rows : List (List ℕ)) (n : ℕ) → places_in (take n rows) ≡ waiting rows n
+places-taken rows n = sym (take-map pending_of n rows)
+
+-- what waits in the front of the rows
+pub waiting_front : (front rest : List (List ℕ)) (n : ℕ) → n ≤ length front → waiting (front ++ rest) n ≡ waiting front n
+waiting_front front rest n h =
+    sym (places-taken (front ++ rest) n) ∙ (ap places_in (take-append-le n front rest h) ∙ places-taken front n)
+
+-- a count past the rows means all
+pub waiting_most : (rows : List (List ℕ)) (count n : ℕ) → n ≡ length (waiting rows count) → waiting rows n ≡ waiting rows count
+waiting_most rows count n e = rw (e, length-take count (places_in rows)) (take_min count (places_in rows))

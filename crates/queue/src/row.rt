@@ -1,26 +1,25 @@
-// A pending request as a row of four words. A slice of rows can be lent in parts, so that a queue is
-// changed where it stands; one of structs would be copied.
+// A pending request as a row of four words: C lends such rows to `failstop_play_block`.
 ghost use Rattle.std.specs.Prelude.{◌≡◌, ◌≤◌, length};
 ghost use Rattle.queue.specs.Row.{row_of, pending_of};
 ghost use Rattle.queue.specs.Queue.{waiting};
 
-use limits::at_most;
 use record::{LocalTime, Request, Timestamp};
 use rules::Pending;
 
-// Its timestamp; its arrival; its kind, group, process and variable; its value.
+// Its timestamp; its arrival; its kind, group, process and variable; its value. A function and no From, since neither
+// an array nor `Pending` is a type of this crate.
 pub fn row_of(p: Pending) -> [u64; 4]
     ensures is { result ≡ row_of p }
     ensures back { pending_of result ≡ p }
 {
     let q = p.request;
-    let low = q.kind as u64 + 256 * q.group as u64;
-    let high = q.process as u64 + 256 * q.variable as u64;
+    let low = u64::from(q.kind) + 256 * u64::from(q.group);
+    let high = u64::from(q.process) + 256 * u64::from(q.variable);
     [
         q.timestamp.0,
         p.arrival.0,
         low + 65536 * high,
-        q.value as u64,
+        u64::from(q.value),
     ]
 }
 
@@ -48,5 +47,5 @@ pub fn pending_count(queue: &[[u64; 4]], count: usize) -> usize
     ensures is { result ≡ length (waiting queue.now count) }
     ensures within { result ≤ length queue.now }
 {
-    at_most(queue.len(), count)
+    count.min(queue.len())
 }

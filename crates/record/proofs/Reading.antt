@@ -6,9 +6,10 @@ use lib.Dec.{eqb, leb}
 use lib.ListN.{length, drop}
 use borrow.Author.Tests.{eqb-true, eq-eqb, leb-true, le-leb}
 use Rattle.limits.specs.Limits.{record_size}
-use Rattle.question.specs.Question.{Question, ◌else◌, Answer, given, refused, Worked, worked, ask, map_answer, next, after, verdict, outcome, unit_questions}
-use Rattle.question.specs.declared.Outcome.{Outcome}
-use Rattle.question.specs.declared.Outcome.TheVariants.{Done, Refused}
+use Rattle.question.specs.Question.{Question, ◌else◌, Answer, given, refused, Worked, worked, ask, map_answer, next, after, verdict, unit_questions}
+use Rattle.question.specs.Refusals.{number_of, answer_of}
+use Rattle.question.specs.declared.refusal.Refusal.{Refusal}
+use Rattle.std.specs.Prelude.{⊤, Result, Ok, Err}
 use Rattle.question.proofs.Questions.{AllYes, all_yes_parts, all_yes_both, ask_chain, ask_yes, ask-all_yes, ask-map, ask-verdict, next_asked, same_given}
 use Rattle.layout.specs.Layout.{fields_of, fields_in, bytes_of}
 use Rattle.layout.proofs.Layouts.{fields_in_lem}
@@ -28,24 +29,24 @@ room_question room = (leb record_size room else 15) ∷ []
 module _ (family : Family) (k n : ℕ) where
   -- ── as the code goes: the first questions by themselves, then the rest ──
 
-  module _ (bytes : List ℕ) (o : Outcome) (asked : outcome o ≡ ask (unit_questions k n ++ length_question bytes) (given worked)) where
+  module _ (bytes : List ℕ) (o : Result ⊤ Refusal) (asked : answer_of o ≡ ask (unit_questions k n ++ length_question bytes) (given worked)) where
     -- bytes that pass questions 1, 2 and 6 are 24
-    read_length : o ≡ Done → length bytes ≡ record_size
+    read_length : o ≡ Ok tt → length bytes ≡ record_size
     read_length e =
         let first = unit_questions k n ++ length_question bytes in
-        let parts = all_yes_parts (unit_questions k n) (length_question bytes) (ask-all_yes first (given worked) (sym asked ∙ ap outcome e)) in
+        let parts = all_yes_parts (unit_questions k n) (length_question bytes) (ask-all_yes first (given worked) (sym asked ∙ ap answer_of e)) in
         eqb-true (length bytes) record_size parts.1.0
 
     -- then come those of the fields, and something is made of them
     module _ {A : Type 0} (of : Fields → A) where
-      read_next : next (outcome o) (ask (field_questions family k n (fields_of bytes)) (given (of (fields_of bytes)))) ≡ map_answer of (read_fields family k n bytes)
+      read_next : next (answer_of o) (ask (field_questions family k n (fields_of bytes)) (given (of (fields_of bytes)))) ≡ map_answer of (read_fields family k n bytes)
       unfolding read_fields
       read_next = rw (asked, ← ask-map (read_questions family k n bytes) of (fields_of bytes)) (simp (ask_chain, append_assoc))
 
-      pub read-refused : {number : ℕ} → o ≡ Refused number → refused number ≡ map_answer of (read_fields family k n bytes)
+      pub read-refused : {refusal : Refusal} → o ≡ Err refusal → refused (number_of refusal) ≡ map_answer of (read_fields family k n bytes)
       read-refused e = rw e at read_next
 
-      pub read_decided : o ≡ Done → {f : Fields} → f ≡ fields_in bytes → {later : Answer Worked} →
+      pub read_decided : o ≡ Ok tt → {f : Fields} → f ≡ fields_in bytes → {later : Answer Worked} →
           later ≡ ask (field_questions family k n f) (given worked) →
           next later (given (of f)) ≡ map_answer of (read_fields family k n bytes)
       read_decided e {f} read {later} fields =

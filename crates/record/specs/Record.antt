@@ -2,16 +2,14 @@
 -- requests and messages is who sends and what the kind may carry (Kind.antt); the path is one.
 use Rattle.std.specs.Prelude.{ℕ, ◌+◌, ◌*◌, Bool, true, false, ◌&&◌, ◌||◌, List, [], ◌∷◌, ◌++◌, eqb, leb, length, drop}
 use Rattle.limits.specs.Limits.{record_size}
-use Rattle.question.specs.Question.{Question, ◌else◌, Answer, given, refused, ask, map_answer, all_yes, within, unit_questions}
+use Rattle.question.specs.Question.{Question, ◌else◌, Answer, given, ask, map_answer, all_yes, within, unit_questions}
 use Rattle.layout.specs.Layout.{fields_of, bytes_of}
 use Rattle.record.specs.Kind.{is_of, row_of}
 use Rattle.layout.specs.declared.fields.Fields.{Fields}
 use Rattle.record.specs.declared.kind.Family.{Family}
 use Rattle.record.specs.declared.kind.Family.TheVariants.{Requests, Messages, Neither}
 use Rattle.record.specs.declared.request.Request.{Request}
-use Rattle.record.specs.declared.request.RequestRead.{RequestRead}
 use Rattle.record.specs.declared.message.Message.{Message}
-use Rattle.record.specs.declared.message.MessageRead.{MessageRead}
 
 -- ── what is asked of the fields ──
 
@@ -144,13 +142,3 @@ passes k n m = all_yes (field_questions Messages k n (message_fields m))
 -- no message: what stands where there is none
 abbrev pub blank_message : Message
 blank_message = record { kind = 0; group = 0; process = 0; replica = 0; variable = 0; timestamp = record { 0 = 0 }; value = 0 }
-
--- ── the answers of the code: document 01's number and values for each case ──
-
-abbrev pub request_answer : RequestRead → Answer Request
-request_answer (RequestRead.Accepted r) = given r
-request_answer (RequestRead.Refused number) = refused number
-
-abbrev pub message_answer : MessageRead → Answer Message
-message_answer (MessageRead.Accepted m) = given m
-message_answer (MessageRead.Refused number) = refused number

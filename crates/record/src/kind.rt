@@ -1,8 +1,8 @@
 // The kinds of records, a row for each: what a record of the kind is for, and what it may carry.
 ghost use Rattle.std.specs.Prelude.{◌≡◌, false};
-ghost use Rattle.record.specs.Kind.{family_of, family_number, is_of, row, row_of};
+ghost use Rattle.record.specs.Kind.{family_of, is_of, row, row_of};
 
-// Document 01's kinds.
+// Document 01's kinds. Bytes and no enum: the kind is C's, and one that is none must be refused.
 pub const READ: u8 = 1;
 
 pub const WRITE: u8 = 2;
@@ -11,31 +11,22 @@ pub const REPLY: u8 = 3;
 
 pub const HALT: u8 = 4;
 
-#[derive(Clone, Copy)]
+// `Neither` and no Option: so the definition `family_of` has it.
+#[derive(Clone, Copy, PartialEq, Eq)]
 pub enum Family {
     Requests,
     Messages,
     Neither,
 }
 
+// A match with ranges, the form that document 01 names.
 pub(crate) fn family_of(kind: u8) -> Family
     ensures { result ≡ family_of kind }
 {
     match kind {
-        1..=2 => Family::Requests,
-        3..=4 => Family::Messages,
+        READ..=WRITE => Family::Requests,
+        REPLY..=HALT => Family::Messages,
         _ => Family::Neither,
-    }
-}
-
-// A number for each family, to tell them apart by.
-fn family_number(family: Family) -> u8
-    ensures { result ≡ family_number family }
-{
-    match family {
-        Family::Neither => 0,
-        Family::Requests => 1,
-        Family::Messages => 2,
     }
 }
 
@@ -43,7 +34,7 @@ fn family_number(family: Family) -> u8
 pub(crate) fn is_of(family: Family, kind: u8) -> bool
     ensures { result ≡ is_of family kind }
 {
-    family_number(family_of(kind)) == family_number(family)
+    family_of(kind) == family
 }
 
 // What a record of a kind may carry.
@@ -72,14 +63,15 @@ impl Row {
     }
 }
 
+// The table by kind; no `From`, which is for a value in another form.
 pub(crate) fn row_of(kind: u8) -> Row
     ensures { result ≡ row_of kind }
 {
     match kind {
-        1 => Row::new(0, 255, false),
-        2 => Row::new(1, 255, true),
-        3 => Row::new(0, 255, true),
-        4 => Row::new(0, 0, false),
+        READ => Row::new(0, 255, false),
+        WRITE => Row::new(1, 255, true),
+        REPLY => Row::new(0, 255, true),
+        HALT => Row::new(0, 0, false),
         _ => Row::new(0, 0, false),
     }
 }

@@ -1,16 +1,20 @@
 // Messages: a reply or a halt, from a replica to a process.
 ghost use Rattle.std.specs.Prelude.{◌≡◌};
-ghost use Rattle.question.specs.Question.{after, verdict, outcome};
-ghost use Rattle.record.specs.Record.{message_in, message_fields, message_answer, read_message, write_message, passes, blank_message};
+ghost use Rattle.question.specs.Question.{after, verdict};
+ghost use Rattle.question.specs.Refusals.{answer_of};
+ghost use Rattle.record.specs.declared.kind.Family.TheVariants.{Messages};
+ghost use Rattle.record.specs.Record.{message_in, message_fields, read_message, write_message, passes, blank_message};
 
-use crate::check::{check_fields, check_length, check_write, put_unless_refused};
+use crate::check::Scope;
 use crate::kind::Family;
+use crate::record::{Record, read, write};
 use layout::{Fields, Timestamp};
-use question::Outcome;
+use question::Refusal;
 
 #[repr(C)]
-#[derive(Clone, Copy)]
+#[derive(Clone, Copy, Default)]
 pub struct Message {
+    // A byte and no enum: it is C's.
     pub kind: u8,
     pub group: u8,
     // Document 01's program card: the process that the message is for.
@@ -22,91 +26,86 @@ pub struct Message {
     pub value: u32,
 }
 
-#[derive(Clone, Copy)]
-pub enum MessageRead {
-    Accepted(Message),
-    Refused(u8),
-}
-
 impl Message {
     // No message: what stands where there is none.
     pub fn blank() -> Message
         ensures { result ≡ blank_message }
     {
-        Message {
-            kind: 0,
-            group: 0,
-            process: 0,
-            replica: 0,
-            variable: 0,
-            timestamp: Timestamp(0),
-            value: 0,
-        }
+        Message::default()
     }
 
     // Whether the message questions are all answered yes.
     pub fn passes(self, k: u8, n: u8) -> bool
         ensures { result ≡ passes k n self }
     {
-        match check_fields(Family::Messages, k, n, self.fields()) {
-            Outcome::Done => true,
-            Outcome::Refused(_) => false,
-        }
+        let scope = Scope {
+            family: Message::FAMILY,
+            k,
+            n,
+        };
+        scope.check_fields(self.into()).is_ok()
     }
+}
 
-    fn of_fields(f: Fields) -> Message
-        ensures { result ≡ message_in f }
-    {
-        let timestamp = f.timestamp;
+impl From<Fields> for Message {
+    ghost from_gives = { λ f m. m ≡ message_in f };
+
+    fn from(f: Fields) -> Message {
         Message {
             kind: f.kind,
             group: f.group,
             process: f.process,
             replica: f.replica,
             variable: f.variable,
-            timestamp,
+            timestamp: f.timestamp,
             value: f.value,
         }
     }
+}
 
-    fn fields(self) -> Fields
-        ensures { result ≡ message_fields self }
-    {
-        let timestamp = self.timestamp;
+impl From<Message> for Fields {
+    ghost from_gives = { λ m f. f ≡ message_fields m };
+
+    fn from(m: Message) -> Fields {
         Fields {
-            kind: self.kind,
-            group: self.group,
-            process: self.process,
-            replica: self.replica,
-            variable: self.variable,
+            kind: m.kind,
+            group: m.group,
+            process: m.process,
+            replica: m.replica,
+            variable: m.variable,
             spare6: 0,
-            timestamp,
-            value: self.value,
+            timestamp: m.timestamp,
+            value: m.value,
             spare20: 0,
         }
     }
 }
 
-pub fn read_message(k: u8, n: u8, bytes: &[u8]) -> MessageRead
-    ensures { message_answer result ≡ read_message k n bytes.now }
-{
-    if let Outcome::Refused(number) = check_length(k, n, bytes.len()) {
-        return MessageRead::Refused(number);
-    }
-    let f = Fields::of_bytes(bytes);
-    match check_fields(Family::Messages, k, n, f) {
-        Outcome::Done => MessageRead::Accepted(Message::of_fields(f)),
-        Outcome::Refused(number) => MessageRead::Refused(number),
-    }
+impl Record for Message {
+    const FAMILY: Family = Family::Messages;
+
+    ghost FAMILY = { Messages };
+
+    ghost of = { message_in };
+
+    ghost into = { message_fields };
+
+    ghost from_is = { λ _ _ is. is };
+
+    ghost into_is = { λ _ _ is. is };
 }
 
-// Writes the first 24 bytes of the destination, or refuses and writes nothing.
-pub fn write_message(k: u8, n: u8, m: Message, destination: &mut [u8]) -> Outcome
-    ensures answer { outcome result ≡ verdict (write_message k n m destination.old) }
+// `read` at one type: C and the documents call it by this name.
+pub fn read_message(k: u8, n: u8, bytes: &[u8]) -> Result<Message, Refusal>
+    ensures { answer_of result ≡ read_message k n bytes.now }
+{
+    read(k, n, bytes)
+}
+
+// `write` at one type, by the name that C and the documents have.
+pub fn write_message(k: u8, n: u8, m: Message, destination: &mut [u8]) -> Result<(), Refusal>
+    ensures answer { answer_of result ≡ verdict (write_message k n m destination.old) }
     ensures content { destination.new ≡ after destination.old (write_message k n m destination.old) }
 {
-    let f = m.fields();
-    let o = check_write(Family::Messages, k, n, f, destination.len());
-    put_unless_refused(f, o, destination);
-    o
+    write(k, n, m, destination)
 }

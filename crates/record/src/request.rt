@@ -1,17 +1,20 @@
 // Requests: a read or a write, from a process to the replicas.
 ghost use Rattle.std.specs.Prelude.{◌≡◌, ◌&&◌};
-ghost use Rattle.question.specs.Question.{after, verdict, outcome};
+ghost use Rattle.question.specs.Question.{after, verdict};
+ghost use Rattle.question.specs.Refusals.{answer_of};
+ghost use Rattle.record.specs.declared.kind.Family.TheVariants.{Requests};
 ghost use Rattle.record.specs.Kind.{is_read, is_write, same_write};
-ghost use Rattle.record.specs.Record.{request_in, request_fields, request_answer, read_request, write_request, blank_request};
+ghost use Rattle.record.specs.Record.{request_in, request_fields, read_request, write_request, blank_request};
 
-use crate::check::{check_fields, check_length, check_write, put_unless_refused};
 use crate::kind::{Family, READ, WRITE};
+use crate::record::{Record, read, write};
 use layout::{Fields, Timestamp};
-use question::Outcome;
+use question::Refusal;
 
 #[repr(C)]
-#[derive(Clone, Copy)]
+#[derive(Clone, Copy, Default)]
 pub struct Request {
+    // A byte and no enum: it is C's.
     pub kind: u8,
     pub group: u8,
     // Document 01's program card: the process that sends the request.
@@ -21,25 +24,12 @@ pub struct Request {
     pub value: u32,
 }
 
-#[derive(Clone, Copy)]
-pub enum RequestRead {
-    Accepted(Request),
-    Refused(u8),
-}
-
 impl Request {
     // No request: what stands where there is none.
     pub fn blank() -> Request
         ensures { result ≡ blank_request }
     {
-        Request {
-            kind: 0,
-            group: 0,
-            process: 0,
-            variable: 0,
-            timestamp: Timestamp(0),
-            value: 0,
-        }
+        Request::default()
     }
 
     pub fn is_read(self) -> bool
@@ -54,59 +44,66 @@ impl Request {
     {
         (self.kind == WRITE) & ((other.variable == self.variable) & (other.value == self.value))
     }
+}
 
-    fn of_fields(f: Fields) -> Request
-        ensures { result ≡ request_in f }
-    {
-        let timestamp = f.timestamp;
+impl From<Fields> for Request {
+    ghost from_gives = { λ f r. r ≡ request_in f };
+
+    fn from(f: Fields) -> Request {
         Request {
             kind: f.kind,
             group: f.group,
             process: f.process,
             variable: f.variable,
-            timestamp,
+            timestamp: f.timestamp,
             value: f.value,
         }
     }
+}
 
-    fn fields(self) -> Fields
-        ensures { result ≡ request_fields self }
-    {
-        let timestamp = self.timestamp;
+impl From<Request> for Fields {
+    ghost from_gives = { λ r f. f ≡ request_fields r };
+
+    fn from(r: Request) -> Fields {
         Fields {
-            kind: self.kind,
-            group: self.group,
-            process: self.process,
+            kind: r.kind,
+            group: r.group,
+            process: r.process,
             replica: 0,
-            variable: self.variable,
+            variable: r.variable,
             spare6: 0,
-            timestamp,
-            value: self.value,
+            timestamp: r.timestamp,
+            value: r.value,
             spare20: 0,
         }
     }
 }
 
-pub fn read_request(k: u8, n: u8, bytes: &[u8]) -> RequestRead
-    ensures { request_answer result ≡ read_request k n bytes.now }
-{
-    if let Outcome::Refused(number) = check_length(k, n, bytes.len()) {
-        return RequestRead::Refused(number);
-    }
-    let f = Fields::of_bytes(bytes);
-    match check_fields(Family::Requests, k, n, f) {
-        Outcome::Done => RequestRead::Accepted(Request::of_fields(f)),
-        Outcome::Refused(number) => RequestRead::Refused(number),
-    }
+impl Record for Request {
+    const FAMILY: Family = Family::Requests;
+
+    ghost FAMILY = { Requests };
+
+    ghost of = { request_in };
+
+    ghost into = { request_fields };
+
+    ghost from_is = { λ _ _ is. is };
+
+    ghost into_is = { λ _ _ is. is };
 }
 
-// Writes the first 24 bytes of the destination, or refuses and writes nothing.
-pub fn write_request(k: u8, n: u8, r: Request, destination: &mut [u8]) -> Outcome
-    ensures answer { outcome result ≡ verdict (write_request k n r destination.old) }
+// `read` at one type: C and the documents call it by this name.
+pub fn read_request(k: u8, n: u8, bytes: &[u8]) -> Result<Request, Refusal>
+    ensures { answer_of result ≡ read_request k n bytes.now }
+{
+    read(k, n, bytes)
+}
+
+// `write` at one type, by the name that C and the documents have.
+pub fn write_request(k: u8, n: u8, r: Request, destination: &mut [u8]) -> Result<(), Refusal>
+    ensures answer { answer_of result ≡ verdict (write_request k n r destination.old) }
     ensures content { destination.new ≡ after destination.old (write_request k n r destination.old) }
 {
-    let f = r.fields();
-    let o = check_write(Family::Requests, k, n, f, destination.len());
-    put_unless_refused(f, o, destination);
-    o
+    write(k, n, r, destination)
 }

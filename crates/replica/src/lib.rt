@@ -8,5 +8,5 @@
 #![tactic(auto)]
 
 pub use delivery::{Delivered, deliver};
-pub use state::{Made, Replica, make};
-pub use step::{StepAnswer, Stepped, step};
+pub use state::{Replica, make};
+pub use step::{Stepped, step};

@@ -5,12 +5,11 @@ use mathlib.Core.List.{List, [], ◌∷◌, ◌++◌, map, map-append}
 use native.Mathlib.Omega.{arith}
 use lib.ListN.{get_or, replicate}
 use Rattle.limits.specs.Limits.{output_size}
-use Rattle.question.specs.Question.{after, map_answer}
+use Rattle.question.specs.Question.{given, after, map_answer}
 use Rattle.record.specs.declared.request.Request.{Request}
 use Rattle.rules.specs.Replica.{State, new_state, make, step}
 use Rattle.rules.specs.Run.{Call, call, run, Ran}
 use Rattle.rules.specs.Sample.{deliver_at, step_at}
-use Rattle.state.specs.Made.{blank_state}
 use Rattle.unit.proofs.Lives.{stepped-state}
 use Rattle.session.specs.Session.{unit, choices, requests_for, session, figures_in, figures_of}
 use Rattle.session.proofs.Fed.{session_calls, fed_ran, fed_orderly}
@@ -53,13 +52,16 @@ module _ (place : ℕ) (small : place < 256) where
       ∙ (feed-append (part 2 1 1) (part 1 2 2 ++ part 2 2 3) (feed (part 1 1 0) new)
       ∙ feed-append (part 1 2 2) (part 2 2 3) (feed (part 2 1 1) (feed (part 1 1 0) new))))
 
-  pub brought : {start first second third fourth last : State} → start ≡ after blank_state (make (unit delta) 1)
+  pub made : make (unit delta) 1 ≡ given new
+  made = ran.made
+
+  pub brought : {start first second third fourth last : State} → start ≡ new
       → first ≡ feed (part 1 1 0) start → second ≡ feed (part 2 1 1) first → third ≡ feed (part 1 2 2) second → fourth ≡ feed (part 2 2 3) third
       → last ≡ after fourth (map_answer (λ d. d.state) (step fourth (record { 0 = delta + 1 }) (replicate output_size 0)))
       → figures_in last.store ≡ figures_of place
   unfolding call run
   brought {fourth = fourth} {last = last} z a b c d e =
-      let from-new = a ∙ ap (feed (part 1 1 0)) (z ∙ ap (after blank_state) ran.made) in
+      let from-new = a ∙ ap (feed (part 1 1 0)) z in
       let all : fourth ≡ feed (session place) new =
       d ∙ (ap (feed (part 2 2 3)) (c ∙ ap (feed (part 1 2 2)) (b ∙ ap (feed (part 2 1 1)) from-new)) ∙ parts_fed) in
       let closed : last ≡ (run new (session_calls delta place)).state =

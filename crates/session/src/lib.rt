@@ -64,12 +64,12 @@ fn deliver_request(r: Replica, q: Request) -> Replica
     ensures { state_of result ≡ (run (state_of r) (deliver_at 0 q ∷ [])).state }
 {
     let mut bytes = [0u8; RECORD];
-    record::write_request(1, 1, q, &mut bytes);
+    let _ = record::write_request(1, 1, q, &mut bytes);
     let d = replica::deliver(r, &bytes, LocalTime(0));
     d.replica
 }
 
-// What a process chose at a timestamp.
+// What a process chose at a timestamp: a digit of the place, as document 02 numbers the sessions, and no enum.
 fn deliver_choice(r: Replica, process: u8, t: u64, choice: u8) -> Replica
     requires { (1 ≤ process) × (process ≤ 2) }
     ensures { state_of result ≡ (run (state_of r) (map (deliver_at 0) (requests_for process t choice))).state }
@@ -106,8 +106,7 @@ pub fn session_figures(place: u8) -> Figures
         delta: DELTA,
     };
     let c = choices(place);
-    let made = replica::make(unit, 1);
-    let new = made.replica;
+    let new = replica::make(unit, 1).unwrap();
     let first = deliver_choice(new, 1, 1, c[0]);
     let second = deliver_choice(first, 2, 1, c[1]);
     let third = deliver_choice(second, 1, 2, c[2]);

@@ -2,11 +2,13 @@
 #![tactic(auto)]
 
 ghost use Rattle.std.specs.Prelude.{◌≡◌};
-ghost use Rattle.question.specs.Question.{after, verdict, outcome};
-ghost use Rattle.text.specs.Page.{page, put_text};
+ghost use Rattle.question.specs.Question.{after, verdict};
+ghost use Rattle.question.specs.Refusals.{answer_of};
+ghost use Rattle.text.specs.Writer.{put};
 ghost use Rattle.sheet.specs.Sheet.{digits_word, session_line, sheet, write_sheet};
 
-use question::Outcome;
+use question::{Refusal, ask};
+use text::Writer;
 
 // Its bytes: 10 lines of 13, 90 of 14 and 156 of 15.
 pub const SHEET: usize = 3730;
@@ -20,37 +22,36 @@ fn digits_word(place: u8) -> [u8; 5]
 }
 
 // The line of a session.
-fn put_session(place: u8, text: &mut [u8], used: usize) -> usize
-    ensures { page text.new result ≡ put_text (page text.old used) (session_line place) }
+fn put_session(place: u8, writer: &mut Writer<'_>)
+    ensures { writer.new ≡ put writer.old (session_line place) }
 {
-    let word = digits_word(place);
     let f = session::session_figures(place);
-    let numbers = [f.failed as u64, f.value as u64, f.writes];
-    let at = text::put_decimal(place as u64, text, used);
-    text::put_line(&word, &numbers, text, at)
+    writer.put_decimal(place as u64);
+    writer.put_line(
+        &digits_word(place),
+        &[f.failed as u64, f.value as u64, f.writes],
+    );
 }
 
-// All lines, from the start of the text on.
-fn put_sessions(text: &mut [u8]) -> usize
-    ensures { page text.new result ≡ put_text (page text.old 0) sheet }
+// All lines.
+fn put_sessions(writer: &mut Writer<'_>)
+    ensures { writer.new ≡ put writer.old sheet }
 {
-    let mut used: usize = 0;
-    let mut place: usize = 0;
-    while place < 256 {
-        used = put_session(place as u8, text, used);
-        place += 1;
+    for place in 0..=255u8 {
+        put_session(place, writer);
     }
-    used
 }
 
 // Writes the sheet to the start of the destination, or refuses and writes nothing.
-pub fn write_sheet(destination: &mut [u8]) -> Outcome
-    ensures answer { outcome result ≡ verdict (write_sheet destination.old) }
+pub fn write_sheet(destination: &mut [u8]) -> Result<(), Refusal>
+    ensures answer { answer_of result ≡ verdict (write_sheet destination.old) }
     ensures content { destination.new ≡ after destination.old (write_sheet destination.old) }
 {
-    if destination.len() < SHEET {
-        return Outcome::Refused(15);
-    }
-    put_sessions(destination);
-    Outcome::Done
+    ask(SHEET <= destination.len(), Refusal::Room)?;
+    let mut writer = Writer {
+        text: destination,
+        used: 0,
+    };
+    put_sessions(&mut writer);
+    Ok(())
 }

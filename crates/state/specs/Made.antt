@@ -1,4 +1,4 @@
--- What is made: a new replica, and what stands beside the number of a refused making.
+-- What is made: a new replica; and what stands where none was made.
 use Rattle.std.specs.Prelude.{ℕ, replicate}
 use Rattle.limits.specs.Limits.{max_groups, variable_count, all_places}
 use Rattle.rules.specs.Replica.{State}
@@ -17,7 +17,7 @@ new_replica u number = record {
   writes = 0;
 }
 
--- what stands beside the number of a refused making: zeros. It is no unit's replica, so it refuses every delivery, and a step of it
+-- what stands where a making was refused: zeros. It is no unit's replica, so it refuses every delivery, and a step of it
 -- only notes the time: `blank_refuses` and `blank_stands` (proofs/Blank.antt)
 abbrev pub blank_replica : Replica
 blank_replica = new_replica (record { k = 0; groups = 0; owner = 0; delta = 0 }) 0

@@ -7,5 +7,5 @@
 mod making;
 mod state;
 
-pub use making::{Made, make};
+pub use making::make;
 pub use state::Replica;

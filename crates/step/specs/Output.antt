@@ -5,7 +5,7 @@ use Rattle.rules.specs.Batch.{Store, Effect}
 use Rattle.rules.specs.Replica.{State, Part, Written, written, put_all}
 use Rattle.rules.specs.declared.Pending.{Pending}
 use Rattle.rules.specs.declared.Settings.{Settings}
-use Rattle.queue.specs.Queue.{waiting, queues_in}
+use Rattle.queue.specs.Queue.{places_in, waiting, queues_in}
 use Rattle.step.specs.declared.handle.Progress.{Progress}
 use Rattle.step.specs.declared.handle.Tally.{Tally}
 
@@ -26,11 +26,16 @@ reached_store t variables output = record { state = store_in variables t.writes;
 
 -- ── the visit of one group ──
 
+-- all rows of a slice are pending
+abbrev pub part_of_rows : Tally → List (List ℕ) → List ℕ → Part
+part_of_rows t queue variables = record { store = store_in variables t.writes; queue = places_in queue }
+
+-- as many of its rows as are left
 abbrev pub part_in : Progress → List (List ℕ) → List ℕ → Part
-part_in p queue variables = record { store = store_in variables p.writes; queue = waiting queue p.left }
+part_in p queue variables = record { store = store_in variables p.tally.writes; queue = waiting queue p.left }
 
 abbrev pub reached : Progress → List (List ℕ) → List ℕ → List ℕ → Reached Part
-reached p queue variables output = record { state = part_in p queue variables; output = written p.count output }
+reached p queue variables output = record { state = part_in p queue variables; output = written p.tally.count output }
 
 -- ── the visits of all ──
 

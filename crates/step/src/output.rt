@@ -3,27 +3,34 @@
 ghost use Rattle.std.specs.Prelude.{◌≡◌, map, get_or};
 ghost use Rattle.rules.specs.Batch.{Store, reply_to, halt_to, halt_all};
 ghost use Rattle.rules.specs.Replica.{written, put, put_all};
-ghost use Rattle.queue.specs.Queue.{waiting};
-ghost use Rattle.batch.specs.Head.{requests_at};
+ghost use Rattle.batch.specs.Head.{left_in};
 
-use batch::in_batch;
+use batch::Batch;
 use limits::{MAX_K, RECORD};
-use question::Outcome;
-use queue::{pending_count, pending_of};
-use record::{HALT, Message, REPLY, Request, Timestamp};
+use record::{HALT, LocalTime, Message, REPLY, Request, Timestamp};
 use rules::Settings;
 
-// Writes a message behind the records, and counts it if it was written.
-fn put(k: u8, n: u8, m: Message, output: &mut [u8], count: usize) -> usize
-    ensures { written result output.new ≡ put k n (written count output.old) m }
+// A replica at its visit of a group: what is the same for each of the group's batches.
+#[derive(Clone, Copy)]
+pub struct Visit {
+    pub settings: Settings,
+    pub number: u8,
+    pub group: u8,
+    pub at: LocalTime,
+}
+
+// Writes a message behind the records, and counts it if it was written. The output and the count stand apart,
+// as `written` of the rules has them: each record goes through the part that begins where the last ended.
+fn put(u: Settings, m: Message, output: &mut [u8], count: usize) -> usize
+    ensures { written result output.new ≡ put u.k u.groups (written count output.old) m }
 {
     if output.len() / RECORD <= count {
         return count;
     }
     let at = count * RECORD;
-    match record::write_message(k, n, m, &mut output[at..]) {
-        Outcome::Done => count + 1,
-        Outcome::Refused(_) => count,
+    match record::write_message(u.k, u.groups, m, &mut output[at..]) {
+        Ok(()) => count + 1,
+        Err(_) => count,
     }
 }
 
@@ -31,11 +38,7 @@ fn put(k: u8, n: u8, m: Message, output: &mut [u8], count: usize) -> usize
 pub(crate) fn value_of(variables: &[u32], variable: u16) -> u32
     ensures { result ≡ get_or variables.now variable 0 }
 {
-    let i = variable as usize;
-    if variables.len() <= i {
-        return 0;
-    }
-    variables[i]
+    variables.get(usize::from(variable)).copied().unwrap_or(0)
 }
 
 fn reply_to(variables: &[u32], replica: u8, q: Request) -> Message
@@ -67,66 +70,38 @@ fn halt_to(group: u8, replica: u8, t: Timestamp, process: u8) -> Message
     }
 }
 
-// Answers each read of the batch, in order of arrival, and gives the new count.
-pub(crate) fn send_replies(
-    u: Settings,
-    number: u8,
-    queue: &[[u64; 4]],
-    left: usize,
-    t: Timestamp,
-    variables: &[u32],
-    output: &mut [u8],
-    count: usize,
-) -> usize
-    ensures { (s : Store) → s.variables ≡ variables.now → written result output.new ≡ put_all u.k u.groups (written count output.old) (map (reply_to s number) (requests_at t (waiting queue.now left))) }
-{
-    let n = pending_count(queue, left);
-    let mut next = count;
-    let mut i: usize = 0;
-    while i < n {
-        let p = pending_of(queue[i]);
-        if in_batch(t, p) {
-            let request = p.request;
-            next = put(
-                u.k,
-                u.groups,
-                reply_to(variables, number, request),
-                output,
-                next,
-            );
+impl Visit {
+    // Answers each read of a batch, in order of arrival, and gives the new count.
+    pub(crate) fn send_replies(
+        self,
+        batch: Batch,
+        variables: &[u32],
+        output: &mut [u8],
+        count: usize,
+    ) -> usize
+        ensures { (s : Store) → s.variables ≡ variables.now → written result output.new ≡ put_all self.settings.k self.settings.groups (written count output.old) (map (reply_to s self.number) (left_in batch.entry)) }
+    {
+        let mut next = count;
+        for request in batch {
+            let reply = reply_to(variables, self.number, request);
+            next = put(self.settings, reply, output, next);
         }
-        i += 1;
+        next
     }
-    next
-}
 
-// Halts the processes 1 to k + 1 of a group, ascending, and gives the new count. Where k is no
-// unit's, no record is written, as `write_message` says.
-pub(crate) fn send_halts(
-    u: Settings,
-    number: u8,
-    group: u8,
-    t: Timestamp,
-    output: &mut [u8],
-    count: usize,
-) -> usize
-    ensures { written result output.new ≡ put_all u.k u.groups (written count output.old) (halt_all u.k group number t) }
-{
-    if MAX_K < u.k {
-        return count;
+    // Halts the processes 1 to k + 1 of the group, ascending, and gives the new count. Where k is no
+    // unit's, no record is written, as `write_message` says.
+    pub(crate) fn send_halts(self, t: Timestamp, output: &mut [u8], count: usize) -> usize
+        ensures { written result output.new ≡ put_all self.settings.k self.settings.groups (written count output.old) (halt_all self.settings.k self.group self.number t) }
+    {
+        if MAX_K < self.settings.k {
+            return count;
+        }
+        let mut next = count;
+        for process in 1..=self.settings.k + 1 {
+            let halt = halt_to(self.group, self.number, t, process);
+            next = put(self.settings, halt, output, next);
+        }
+        next
     }
-    let last = u.k + 1;
-    let mut next = count;
-    let mut process: u8 = 0;
-    while process < last {
-        process += 1;
-        next = put(
-            u.k,
-            u.groups,
-            halt_to(group, number, t, process),
-            output,
-            next,
-        );
-    }
-    next
 }

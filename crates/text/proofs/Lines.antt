@@ -1,9 +1,10 @@
 -- How long a line is at most, and joined texts. Assumes nothing.
 use Prim.Native.Nat.{ℕ, ◌+◌, ◌*◌, ◌≤◌}
-use mathlib.Core.Path.{◌≡◌, refl, sym}
-use mathlib.Core.List.{List, [], ◌∷◌, ◌++◌, append_assoc}
+use mathlib.Core.Path.{◌≡◌}
+use mathlib.Core.List.{List, [], ◌∷◌, ◌++◌}
 use lib.ListN.{length, length-append}
 use native.Mathlib.Omega.{arith}
+use Rattle.std.proofs.lemmas.List.Folds.{concat-append}
 use Rattle.text.specs.Text.{decimal, spaced, line, joined}
 use Rattle.text.proofs.Decimal.{decimal-short}
 
@@ -18,5 +19,4 @@ line-short word numbers =
     omega (arith, length-append word (spaced numbers ++ (10 ∷ [])), length-append (spaced numbers) (10 ∷ []), spaced-short numbers)
 
 pub joined-append : (texts more : List (List ℕ)) → joined (texts ++ more) ≡ joined texts ++ joined more
-joined-append [] more = refl
-joined-append (text ∷ texts) more = rw (joined-append texts more) (sym (append_assoc text (joined texts) (joined more)))
+joined-append texts more = concat-append texts more

@@ -5,12 +5,15 @@ use mathlib.Core.Bool.{Bool, true, false}
 use mathlib.Core.List.{List, [], ◌∷◌, ◌++◌, append_assoc}
 use lib.Dec.{leb}
 use lib.ListN.{length, take, drop, length-append, length-take, length-drop, take-append-drop}
+use Rattle.std.proofs.lemmas.List.{take_min}
 use lib.Seq.{length-take-le, take_all, take-nil, take_at, drop_at, drop-drop}
 use native.Mathlib.Nat.{add-zero, sub-zero}
 use native.Mathlib.Omega.{arith}
 use borrow.Author.Tests.{leb-true, leb-false}
 use borrow.Rule.Slice.PartMut.{put_mid}
 use Rattle.text.specs.Page.{Page, page, with_text, put_text}
+use Rattle.text.specs.declared.Writer.{Writer}
+use Rattle.text.specs.Writer.{page_of, with_page, put}
 
 -- ── a text that fits ──
 
@@ -57,17 +60,6 @@ take-append (suc n) (x ∷ a) b =
     let less : suc n - suc (length a) ≡ n - length a = omega arith in
     rw less (ap (λ l. x ∷ l) (take-append n a b))
 
-take_min : (n : ℕ) (a : List ℕ) → take (min (length a) n) a ≡ take n a
-take_min n a = cut (leb (length a) n) refl where
-  cut : (b : Bool) → leb (length a) n ≡ b → take (min (length a) n) a ≡ take n a
-  cut true e =
-      let h = leb-true (length a) n e in
-      take_all (min (length a) n) a (omega arith) ∙ sym (take_all n a h)
-  cut false e =
-      let h = leb-false (length a) n e in
-      let same : min (length a) n ≡ n = omega arith in
-      rw same
-
 -- ── any text ──
 
 pub put-nothing : (p : Page) → put_text p [] ≡ p
@@ -103,6 +95,19 @@ put-put p a b = both (leb p.used (length p.bytes)) refl where
       let h = leb-false p.used (length p.bytes) e in
       rw (put_full p a (omega arith), put_full p b (omega arith), put_full p (a ++ b) (omega arith))
 
+-- the text stays as long
+pub put-length : (p : Page) (text : List ℕ) → length (put_text p text).bytes ≡ length p.bytes
+unfolding put_text
+put-length p text = room (leb p.used (length p.bytes)) refl where
+  room : (t : Bool) → leb p.used (length p.bytes) ≡ t → length (put_text p text).bytes ≡ length p.bytes
+  room true e =
+      let free = length p.bytes - p.used in
+      let h = leb-true p.used (length p.bytes) e in
+      length_with p (take free text) (omega (arith, length-take free text))
+  room false e =
+      let h = leb-false p.used (length p.bytes) e in
+      ap (λ (q : Page). length q.bytes) (put_full p text (omega arith))
+
 -- as much of the word as fits, through the part of the text behind what is used
 pub put-part : (text : List ℕ) (used : ℕ) (word : List ℕ) (count : ℕ) → used ≤ length text →
     count ≡ min (length word) (length text - used) →
@@ -111,5 +116,25 @@ unfolding put_text
 put-part text used word count h same =
     let free = length text - used in
     let long : length (take count word) ≡ count = length-take-le count word (omega arith) in
-    let cut : take free word ≡ take count word = sym (rw same (take_min free word)) in
+    let turned : count ≡ min free (length word) = omega arith in
+    let cut : take free word ≡ take count word = sym (rw turned (take_min free word)) in
     rw (cut, long, drop-drop count used text)
+
+-- ── by a writer ──
+
+pub puts : (w : Writer) (a b : List ℕ) → put (put w a) b ≡ put w (a ++ b)
+unfolding put
+puts w a b = ap (with_page w) (put-put (page_of w) a b)
+
+pub puts-nothing : (w : Writer) → put w [] ≡ w
+unfolding put
+puts-nothing w = ap (with_page w) (put-nothing (page_of w))
+
+-- what stands in the text then, and that it is the same lent text
+pub put-page : (w : Writer) (a : List ℕ) → page_of (put w a) ≡ put_text (page_of w) a
+unfolding put
+put-page w a = refl
+
+pub put-same_text : (w : Writer) (a : List ℕ) → (put w a).text.ghost_name ≡ w.text.ghost_name
+unfolding put
+put-same_text w a = refl

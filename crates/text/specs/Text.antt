@@ -1,5 +1,6 @@
 -- Numbers and lines as text, in ASCII.
 use Rattle.std.specs.Prelude.{ℕ, zero, suc, ◌/◌, ◌%◌, cond, List, [], ◌∷◌, ◌++◌, ltb}
+use Rattle.std.specs.List.{concat}
 use Rattle.io.specs.Digits.{hex_digit_ascii}
 
 -- the decimal digits of a number that has at most `most` of them before the last one
@@ -22,5 +23,4 @@ line word numbers = word ++ (spaced numbers ++ (10 ∷ []))
 
 -- texts one after the other
 abbrev pub joined : List (List ℕ) → List ℕ
-joined [] = []
-joined (text ∷ texts) = text ++ joined texts
+joined texts = concat texts

@@ -1,49 +1,50 @@
-// Text put into lent bytes, one piece behind the other. `used` is how many of the first bytes are
-// used before, and the result is how many are used then; what does not fit is cut off.
+// Text put into lent bytes, one piece behind the other; what does not fit is cut off.
 #![tactic(auto)]
 
-ghost use Rattle.std.specs.Prelude.{◌≡◌, ◌∷◌};
+ghost use Rattle.std.specs.Prelude.{◌≡◌};
 ghost use Rattle.text.specs.Text.{decimal, line};
-ghost use Rattle.text.specs.Page.{page, put_text};
+ghost use Rattle.text.specs.Writer.{put};
 
-use limits::at_most;
+// A lent text, of which so many of the first bytes are used: no String, since there is no heap. Any count may
+// stand in it; where it is past the text nothing is put.
+#[derive(Drop)]
+pub struct Writer<'a> {
+    pub text: &'a mut [u8],
+    pub used: usize,
+}
 
-fn put_word(word: &[u8], text: &mut [u8], used: usize) -> usize
-    ensures { page text.new result ≡ put_text (page text.old used) word.now }
-{
-    if text.len() < used {
-        return used;
+impl Writer<'_> {
+    fn put_word(&mut self, word: &[u8])
+        ensures { self.new ≡ put self.old word.now }
+    {
+        let used = self.used;
+        if self.text.len() < used {
+            return;
+        }
+        let count = (self.text.len() - used).min(word.len());
+        self.text[used..used + count].copy_from_slice(&word[..count]);
+        self.used += count;
     }
-    let count = at_most(text.len() - used, word.len());
-    text[used..used + count].copy_from_slice(&word[0..count]);
-    used + count
-}
 
-pub fn put_decimal(n: u64, text: &mut [u8], used: usize) -> usize
-    ensures { page text.new result ≡ put_text (page text.old used) (decimal n) }
-{
-    let mut digits = [0u8; 20];
-    let count = io::decimal(n, &mut digits);
-    put_word(&digits[0..count], text, used)
-}
-
-// A space and the number.
-fn put_number(n: u64, text: &mut [u8], used: usize) -> usize
-    ensures { page text.new result ≡ put_text (page text.old used) (32 ∷ decimal n) }
-{
-    let next = put_word(b" ", text, used);
-    put_decimal(n, text, next)
-}
-
-// A word, the numbers and a line end.
-pub fn put_line(word: &[u8], numbers: &[u64], text: &mut [u8], used: usize) -> usize
-    ensures { page text.new result ≡ put_text (page text.old used) (line word.now numbers.now) }
-{
-    let mut next = put_word(word, text, used);
-    let mut i: usize = 0;
-    while i < numbers.len() {
-        next = put_number(numbers[i], text, next);
-        i += 1;
+    // The digits are those of the kit's `io::decimal`: `Display` needs a formatter and a result to drop, and
+    // is no plainer.
+    pub fn put_decimal(&mut self, n: u64)
+        ensures { self.new ≡ put self.old (decimal n) }
+    {
+        let mut digits = [0u8; 20];
+        let count = io::decimal(n, &mut digits);
+        self.put_word(&digits[..count]);
     }
-    put_word(b"\n", text, next)
+
+    // A word, the numbers, each with a space before it, and a line end.
+    pub fn put_line(&mut self, word: &[u8], numbers: &[u64])
+        ensures { self.new ≡ put self.old (line word.now numbers.now) }
+    {
+        self.put_word(word);
+        for &n in numbers {
+            self.put_word(b" ");
+            self.put_decimal(n);
+        }
+        self.put_word(b"\n");
+    }
 }

@@ -4,7 +4,7 @@ use mathlib.Core.Path.{◌≡◌, refl}
 use mathlib.Core.Bool.{Bool, true, false}
 use mathlib.Core.List.{List, [], ◌∷◌, ◌++◌, map}
 use lib.ListN.{length, take}
-use Rattle.text.proofs.Ascii.{ascii}
+use Rattle.std.specs.Prelude.{codes}
 use Rattle.text.specs.Text.{decimal_in, decimal, line}
 use Rattle.question.specs.Question.{ask, unit_questions}
 use Rattle.layout.specs.Number.{number, digits}
@@ -44,33 +44,33 @@ rows =
     record {
       calls = lent 39 9000 ∷ lent 41 8844 ∷ lent 40 8843 ∷ lent 100 8844 ∷ lent 1000 9000 ∷ [];
       bytes = input;
-      expected = record { left = 0; over = true; text = ascii "reply 1 1 1 51 3 9\n"; end = ascii "card 1 0 1\n" };
+      expected = record { left = 0; over = true; text = codes "reply 1 1 1 51 3 9\n"; end = codes "card 1 0 1\n" };
     }
     -- its last record cut short: that turn is refused, so the read that it would answer stays pending
     ∷ record {
       calls = lent 1000 9000 ∷ [];
       bytes = take 233 input;
-      expected = record { left = 33; over = true; text = []; end = ascii "no 6 18\ncard 1 0 1\n" };
+      expected = record { left = 33; over = true; text = []; end = codes "no 6 18\ncard 1 0 1\n" };
     }
     -- nothing is played after a first record that is refused
     ∷ record {
       calls = lent 1000 9000 ∷ lent 1000 9000 ∷ [];
       bytes = turn 5 ++ input;
-      expected = record { left = 240; over = true; text = ascii "no 1 19\n"; end = [] };
+      expected = record { left = 240; over = true; text = codes "no 1 19\n"; end = [] };
     }
     -- no input, and one that is shorter than a record
     ∷ record { calls = lent 40 8844 ∷ []; bytes = []; expected = record { left = 0; over = true; text = []; end = [] } }
-    ∷ record { calls = []; bytes = take 39 setup; expected = record { left = 39; over = true; text = []; end = ascii "no 1 18\n" } }
+    ∷ record { calls = []; bytes = take 39 setup; expected = record { left = 39; over = true; text = []; end = codes "no 1 18\n" } }
     -- a line of 8 bytes leaves room for another record; or not, and then the end has not come: it would take what is left for a part
     ∷ record {
       calls = lent 120 8852 ∷ [];
       bytes = setup ++ (setup ++ setup);
-      expected = record { left = 0; over = true; text = ascii "no 2 19\nno 3 19\n"; end = ascii "card 1 0 0\n" };
+      expected = record { left = 0; over = true; text = codes "no 2 19\nno 3 19\n"; end = codes "card 1 0 0\n" };
     }
     ∷ record {
       calls = lent 120 8851 ∷ [];
       bytes = setup ++ (setup ++ setup);
-      expected = record { left = 40; over = false; text = ascii "no 2 19\n"; end = ascii "no 3 18\ncard 1 0 0\n" };
+      expected = record { left = 40; over = false; text = codes "no 2 19\n"; end = codes "no 3 18\ncard 1 0 0\n" };
     }
     ∷ []
 

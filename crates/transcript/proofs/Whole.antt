@@ -4,7 +4,7 @@ use Prim.Native.Nat.{ℕ}
 use mathlib.Core.Path.{◌≡◌, refl}
 use mathlib.Core.List.{List, ◌∷◌, ◌++◌}
 use lib.ListN.{replicate}
-use Rattle.text.proofs.Ascii.{ascii}
+use Rattle.std.specs.Prelude.{codes}
 use Rattle.text.specs.Text.{decimal_in, decimal, line}
 use Rattle.question.specs.Question.{ask, unit_questions}
 use Rattle.layout.specs.Number.{number, digits}
@@ -41,6 +41,6 @@ input =
 
 -- ── the text ──
 
-pub whole_run : journal input ≡ ascii "reply 1 1 1 51 3 9\ncard 1 0 1\n"
+pub whole_run : journal input ≡ codes "reply 1 1 1 51 3 9\ncard 1 0 1\n"
 unfolding ask unit_questions number digits fields_of bytes_of field_questions read_fields write_fields verdict_of handle admit deliver handle_batch visit visit_group visits put put_all stepped step messages_in read_setup read_entry play_entry play_record decimal_in decimal line play_all journal
 whole_run = refl

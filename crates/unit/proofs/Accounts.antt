@@ -4,10 +4,12 @@ use mathlib.Core.Path.{◌≡◌, refl, sym, ap, subst, ◌∙◌}
 use mathlib.Core.Logic.{⊎_elim}
 use mathlib.Core.List.Memᴰ
 use mathlib.Core.List.{List, map, Memᴰ}
-use native.Mathlib.Omega.{arith}
-use Rattle.question.specs.Question.{Answer, given, refused, worked, after, map_answer, verdict, outcome}
+use Rattle.question.specs.Question.{Answer, given, refused, after, map_answer}
+use Rattle.std.specs.Prelude.{Result}
+use Rattle.question.specs.declared.refusal.Refusal.{Refusal}
+use Rattle.question.specs.Refusals.{answer_of}
 use Rattle.layout.specs.declared.clock.LocalTime.{LocalTime}
-use Rattle.question.proofs.Questions.{ask_through}
+use Rattle.question.proofs.Questions.{ask_through, same_given}
 use Rattle.rules.specs.Replica.{State, Stepped, new_state, make_questions, make, step}
 use Rattle.rules.specs.Run.{Call, delivery, turn, LentTo, Lent, messages_in, call, run, exchange, exchanges, Ran}
 use Rattle.rules.specs.Run as rules
@@ -16,11 +18,8 @@ use Rattle.rules.specs.declared.Settings.{Settings}
 use Rattle.state.specs.State.{state_of}
 use Rattle.state.specs.declared.state.Replica.{Replica}
 use Rattle.failstop.specs.Runs.{account}
-use Rattle.state.specs.Made.{blank_state}
 use Rattle.state.proofs.Called.{makes_mean}
 use Rattle.delivery.proofs.Called.{delivers_mean}
-use Rattle.step.specs.Answer.{step_answer}
-use Rattle.step.specs.declared.stepping.StepAnswer.{StepAnswer}
 use Rattle.step.proofs.Called.{steps_mean}
 use Rattle.laws.proofs.Calls.{call-settings}
 use Rattle.unit.specs.Life.{Life, Lived, Event, delivered, stepped, Does, delivers, steps, Runs, start, then, exchange_in, past_in}
@@ -40,8 +39,8 @@ record Tells (u : Settings) (s t : State) (e : Event) : Type 0 where
   passed : exchange_in u e ≡ exchange s (call_of e)
 
 -- a step: its messages are those that stand in the output
-step_tells : (u : Settings) (s : State) → s.settings ≡ u → (at : LocalTime) (output output' : List ℕ) (answer : StepAnswer) (t : State)
-    (a : Answer Stepped) → step s at output ≡ a → step_answer answer ≡ map_answer (λ d. d.count) a
+step_tells : (u : Settings) (s : State) → s.settings ≡ u → (at : LocalTime) (output output' : List ℕ) (answer : Result ℕ Refusal) (t : State)
+    (a : Answer Stepped) → step s at output ≡ a → answer_of answer ≡ map_answer (λ d. d.count) a
     → t ≡ after s (map_answer (λ d. d.state) a) → output' ≡ after output (map_answer (λ d. d.output) a) → Tells u s t (stepped at output answer output')
 unfolding call
 step_tells u s settings at output output' answer t (given d) e told state content = record {
@@ -101,22 +100,18 @@ runs_tell u {r} h (then {r' = r'} {e = e} d rest) =
 
 -- ── a life ──
 
-made-given : (a : Answer State) → verdict a ≡ given worked → (s : State) × (a ≡ given s)
-made-given (given s) e = (s, refl)
-made-given (refused number) e = absurd (let z : ◌≡◌ {A = ℕ} 0 1 = cc in omega arith)
-
 -- what was made is the rules' new replica
 module _ (u : Settings) (number : ℕ) (l : Life) (lived : Lived u number l) where
   life_made : make u number ≡ given (new_state u number)
   unfolding make
   life_made =
-      let told = (makes_mean lived.makes).answer in
-      let yes : verdict (make u number) ≡ given worked = sym told ∙ ap outcome lived.accepted in
-      let s = made-given (make u number) yes in
-      s.1 ∙ sym (ask_through (make_questions u number) (given (new_state u number)) s.1)
+      let made = sym (makes_mean lived.makes) ∙ ap (λ (r : Result Replica Refusal). map_answer state_of (answer_of r)) lived.accepted in
+      made ∙ sym (ask_through (make_questions u number) (given (new_state u number)) made)
 
-  life_new : state_of l.made.replica ≡ new_state u number
-  life_new = (makes_mean lived.makes).state ∙ ap (after blank_state) life_made
+  life_new : state_of l.first ≡ new_state u number
+  life_new =
+      let made = sym (makes_mean lived.makes) ∙ ap (λ (r : Result Replica Refusal). map_answer state_of (answer_of r)) lived.accepted in
+      same_given (sym made ∙ life_made)
 
   life_told : TellsAll u (new_state u number) (state_of l.last) l.events
   life_told = rw life_new at (runs_tell u (ap (λ (s : State). s.settings) life_new) lived.runs)

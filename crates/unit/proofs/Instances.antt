@@ -6,6 +6,8 @@ use mathlib.Core.Bool.{true}
 use mathlib.Core.List.Memᴰ
 use native.Mathlib.Omega.{arith}
 use borrow.Author.Tests.{eqb-true}
+use Rattle.std.specs.Prelude.{Result, Ok}
+use Rattle.question.specs.declared.refusal.Refusal.{Refusal}
 use Rattle.rules.specs.Batch.{value_of, failed, verdict_of}
 use Rattle.rules.specs.Machine.{react, react_all, machine}
 use Rattle.rules.specs.Sets.{has}
@@ -18,8 +20,6 @@ use Rattle.failstop.specs.Suppose.{Correct}
 use Rattle.failstop.specs.Runs.{account_of}
 use Rattle.failstop.proofs.Instances.{only, read-ran, read-supposed, heard_authentic, heard_complete, halt-ran, halt-supposed, stops_authentic, stops_complete}
 use Rattle.state.specs.State.{state_of}
-use Rattle.ballot.specs.declared.count.VoteAnswer.{VoteAnswer}
-use Rattle.ballot.specs.declared.count.HaltAnswer.{HaltAnswer}
 use Rattle.vote.proofs.Called.{Votes, Counts}
 use Rattle.unit.specs.Unit.{accounts, Demand3OfCode}
 use Rattle.unit.proofs.Same.{authentic_same, complete_same}
@@ -37,8 +37,8 @@ unfolding verdict_of react react_all machine
 structs_hold_written i ok = ap (value_of 4) (read-unit.claims.holds i ok)
 
 -- and the code's vote gives what was written before the read, whatever the liar said, and nobody but the liar stands apart
-pub code_votes_written : (answer : VoteAnswer) → Votes 1 2 (query_of the_read) heard answer
-    → (e : Election) × (answer ≡ VoteAnswer.Elected e) × (e.value ≡ 7) × ((i : ℕ) → Correct settings (only 3) i → has e.agreed i ≡ true)
+pub code_votes_written : (answer : Result Election Refusal) → Votes 1 2 (query_of the_read) heard answer
+    → (e : Election) × (answer ≡ Ok e) × (e.value ≡ 7) × ((i : ℕ) → Correct settings (only 3) i → has e.agreed i ≡ true)
     × ((i : ℕ) → has e.other i ≡ true → i ≡ 3) × ((i : ℕ) → has e.silent i ≡ true → i ≡ 3)
 unfolding verdict_of react react_all machine
 code_votes_written answer votes =
@@ -59,8 +59,8 @@ unfolding verdict_of react react_all machine
 structs_failed i ok = ap failed (halt-unit.claims.holds i ok)
 
 -- and the code's halt count tells process 1 to halt
-pub code_counts-halts : (answer : HaltAnswer) → Counts 1 2 1 1 stops answer
-    → (h : HaltCount) × (answer ≡ HaltAnswer.Counted h) × (2 ≤ h.size) × (h.halt ≡ true) × ((i : ℕ) → Correct settings (only 1) i → has h.senders i ≡ true)
+pub code_counts-halts : (answer : Result HaltCount Refusal) → Counts 1 2 1 1 stops answer
+    → (h : HaltCount) × (answer ≡ Ok h) × (2 ≤ h.size) × (h.halt ≡ true) × ((i : ℕ) → Correct settings (only 1) i → has h.senders i ≡ true)
 unfolding verdict_of react react_all machine
 code_counts-halts answer counts =
     let same = lives_same settings (only 1) halt_calls halt-ran in

@@ -1,14 +1,21 @@
 -- What the theorem supposes of the code can be met: every run of the rules is the life of a replica as the contracts describe it.
 use Prim.Native.Nat.{ℕ}
 use mathlib.Core.Path.{◌≡◌, refl, sym, ap, subst, ◌∙◌}
-use mathlib.Core.Bool.{Bool}
-use mathlib.Core.List.Memᴰ
-use mathlib.Core.List.{List, [], ◌∷◌, flat_map}
+use mathlib.Core.Bool.{Bool, true}
+use mathlib.Core.List.{List, [], ◌∷◌, flat_map, Memᴰ}
 use native.Mathlib.Omega.{arith}
 use denote.MutBor.{MutBor}
 use denote.Ref.{Bor}
-use Rattle.question.specs.Question.{Answer, given, refused, after, map_answer, verdict, outcome}
-use Rattle.question.specs.declared.Outcome.{Outcome}
+use Rattle.question.specs.Question.{Answer, given, refused, Listed, after, map_answer, verdict}
+use borrow.Author.Tests.{eqb-true}
+use Rattle.std.specs.Prelude.{⊤, Result, Ok, Err}
+use Rattle.question.specs.Refusals.{number_of, answer_of}
+use Rattle.question.specs.declared.refusal.Refusal.{Refusal}
+use Rattle.question.proofs.Refusals.{refusal_of, has_number}
+use Rattle.rules.specs.Lists.{every}
+use Rattle.rules.specs.Numbers.{deliver_numbers, step_numbers}
+use Rattle.rules.proofs.Numbers.{deliver_numbers_lem, step_numbers_lem}
+use Rattle.laws.proofs.Lists.{every_in}
 use Rattle.layout.specs.declared.clock.LocalTime.{LocalTime}
 use Rattle.record.specs.declared.request.Request.{Request}
 use Rattle.rules.specs.Replica.{State, Stepped, new_state, deliver, step}
@@ -22,8 +29,6 @@ use Rattle.failstop.specs.Suppose.{Correct, Supposed}
 use Rattle.failstop.specs.Runs as rules
 use Rattle.state.specs.State.{state_of}
 use Rattle.state.specs.Made.{new_replica}
-use Rattle.step.specs.Answer.{step_answer}
-use Rattle.step.specs.declared.stepping.StepAnswer.{StepAnswer}
 use Rattle.unit.specs.Life.{Life, Lived, past_in, Event, delivered, stepped, Does, delivers, steps, Runs, start, then}
 use Rattle.unit.specs.Unit.{life_account, accounts, UnitRan}
 use Rattle.unit.specs.Isolation.{view_in}
@@ -40,17 +45,17 @@ lent_as bytes = record { ref_ptr = (0, 0); ghost_name = 0; now = bytes }
 
 -- ── the answers of the rules as the code gives them ──
 
-abbrev outcome_of : Answer State → Outcome
-outcome_of (given s) = Outcome.Done
-outcome_of (refused number) = Outcome.Refused number
+abbrev outcome_of : Answer State → Result ⊤ Refusal
+outcome_of (given s) = Ok tt
+outcome_of (refused number) = Err (refusal_of number)
 
-abbrev answer_of : Answer Stepped → StepAnswer
-answer_of (given d) = StepAnswer.Sent d.count
-answer_of (refused number) = StepAnswer.Refused number
+abbrev count_of : Answer Stepped → Result ℕ Refusal
+count_of (given d) = Ok d.count
+count_of (refused number) = Err (refusal_of number)
 
 abbrev event_of : State → Call → Event
 event_of s (delivery bytes at) = delivered bytes at (outcome_of (deliver s bytes at))
-event_of s (turn at output) = stepped at output (answer_of (step s at output)) (after output (map_answer (λ d. d.output) (step s at output)))
+event_of s (turn at output) = stepped at output (count_of (step s at output)) (after output (map_answer (λ d. d.output) (step s at output)))
 
 abbrev events_of : State → List Call → List Event
 events_of s [] = []
@@ -58,20 +63,24 @@ events_of s (c ∷ calls) = event_of s c ∷ events_of (call s c).state calls
 
 -- ── one call ──
 
-outcome_is : (a : Answer State) → outcome (outcome_of a) ≡ verdict a
-outcome_is (given s) = refl
-outcome_is (refused number) = refl
+-- each number that a call may be refused with has its refusal
+numbered : (numbers : List ℕ) → every has_number numbers ≡ true → (n : ℕ) → Memᴰ n numbers → number_of (refusal_of n) ≡ n
+numbered numbers all n i = eqb-true (number_of (refusal_of n)) n (every_in has_number numbers all n i)
 
-answer_is : (a : Answer Stepped) → step_answer (answer_of a) ≡ map_answer (λ d. d.count) a
-answer_is (given d) = refl
-answer_is (refused number) = refl
+outcome_is : (a : Answer State) → Listed deliver_numbers a → answer_of (outcome_of a) ≡ verdict a
+outcome_is (given s) listed = refl
+outcome_is (refused number) listed = ap refused (numbered deliver_numbers refl number (listed number refl))
+
+answer_is : (a : Answer Stepped) → Listed step_numbers a → answer_of (count_of a) ≡ map_answer (λ d. d.count) a
+answer_is (given d) listed = refl
+answer_is (refused number) listed = ap refused (numbered step_numbers refl number (listed number refl))
 
 -- a refusal leaves the struct
-kept_if_refused : (s : State) (a : Answer State) (q : ℕ) → outcome (outcome_of a) ≡ refused q → replica_of (after s a) ≡ replica_of s
+kept_if_refused : (s : State) (a : Answer State) (q : ℕ) → answer_of (outcome_of a) ≡ refused q → replica_of (after s a) ≡ replica_of s
 kept_if_refused s (given t) q e = absurd (let z : ◌≡◌ {A = ℕ} 0 1 = cc in omega arith)
 kept_if_refused s (refused number) q e = refl
 
-kept_if_not-stepped : (s : State) (a : Answer Stepped) (q : ℕ) → step_answer (answer_of a) ≡ refused q
+kept_if_not-stepped : (s : State) (a : Answer Stepped) (q : ℕ) → answer_of (count_of a) ≡ refused q
     → replica_of (after s (map_answer (λ d. d.state) a)) ≡ replica_of s
 kept_if_not-stepped s (given d) q e = absurd (let z : ◌≡◌ {A = ℕ} 0 1 = cc in omega arith)
 kept_if_not-stepped s (refused number) q e = refl
@@ -90,7 +99,7 @@ delivery-done s bytes at lent before behind =
       slice = shown_as bytes;
       lent = refl;
       learnt = (
-        outcome_is a ∙ ap (λ (t : State). verdict (deliver t bytes at)) same,
+        outcome_is a (deliver_numbers_lem s bytes at) ∙ ap (λ (t : State). verdict (deliver t bytes at)) same,
         (behind ∙ ap (λ (t : State). after t (deliver t bytes at)) same, kept_if_refused s a),
       );
     })
@@ -105,7 +114,7 @@ step-done s at output before behind =
       slice = lent_as output;
       lent = refl;
       learnt = (
-        answer_is a ∙ ap (λ (t : State). map_answer (λ d. d.count) (step t at output)) same,
+        answer_is a (step_numbers_lem s at output) ∙ ap (λ (t : State). map_answer (λ d. d.count) (step t at output)) same,
         (
           behind ∙ ap (λ (t : State). after t (map_answer (λ d. d.state) (step t at output))) same,
           (ap (λ (t : State). after output (map_answer (λ d. d.output) (step t at output))) same, kept_if_not-stepped s a),
@@ -153,7 +162,8 @@ abbrev pub life_of : Settings → ℕ → List Call → Life
 life_of u number calls =
     let s = new_state u number in
     record {
-      made = record { outcome = Outcome.Done; replica = new_replica u number };
+      made = Ok (new_replica u number);
+      first = new_replica u number;
       events = events_of s calls;
       last = replica_of (run s calls).state;
     }
@@ -167,8 +177,7 @@ module _ (u : Settings) (number : ℕ) (calls : List Call) (ran : Ran u number c
       record {
         makes = record {
           lifetimes = tt;
-          learnt = rw ran.made
-              (refl, (state_of_struct u number ok (new_state u number) new, λ q e. absurd (let z : ◌≡◌ {A = ℕ} 0 1 = cc in omega arith)));
+          learnt = rw ran.made (ap given (state_of_struct u number ok (new_state u number) new));
         };
         accepted = refl;
         runs = calls-done u number ok calls (new_state u number) new ran.lent;

@@ -6,8 +6,10 @@ use mathlib.Core.Path.{◌≡◌, refl, sym, ap, ◌∙◌}
 use mathlib.Core.Bool.{true}
 use mathlib.Core.List.{List, Memᴰ}
 use native.Mathlib.Omega.{arith}
-use Rattle.question.specs.Question.{Answer, given, refused, map_answer, verdict, outcome, Never}
-use Rattle.question.specs.declared.Outcome.{Outcome}
+use Rattle.question.specs.Question.{Answer, given, refused, map_answer, verdict, Never}
+use Rattle.std.specs.Prelude.{Result, Err}
+use Rattle.question.specs.Refusals.{number_of, answer_of}
+use Rattle.question.specs.declared.refusal.Refusal.{Refusal}
 use Rattle.layout.specs.declared.clock.LocalTime.{LocalTime}
 use Rattle.record.specs.Record.{read_request, read_message, write_request, write_message}
 use Rattle.record.specs.declared.message.Message.{Message}
@@ -21,17 +23,13 @@ use Rattle.rules.proofs.Numbers.{make_numbers_lem, read_request_numbers_lem, rea
 use Rattle.laws.proofs.Numbers.{listed_never}
 use Rattle.state.specs.State.{state_of}
 use Rattle.state.specs.declared.state.Replica.{Replica}
-use Rattle.state.specs.declared.making.Made.{Made}
+use Rattle.rules.specs.declared.Election.{Election}
+use Rattle.rules.specs.declared.HaltCount.{HaltCount}
 use Rattle.delivery.specs.declared.delivery.Delivered.{Delivered}
 use Rattle.state.proofs.Called.{Makes, makes_mean}
 use Rattle.delivery.proofs.Called.{Delivers, delivers_mean}
-use Rattle.step.specs.Answer.{step_answer}
-use Rattle.step.specs.declared.stepping.StepAnswer.{StepAnswer}
 use Rattle.step.specs.declared.stepping.Stepped.{Stepped}
 use Rattle.step.proofs.Called.{Steps, steps_mean}
-use Rattle.ballot.specs.Answers.{vote_answer, halt_answer}
-use Rattle.ballot.specs.declared.count.VoteAnswer.{VoteAnswer}
-use Rattle.ballot.specs.declared.count.HaltAnswer.{HaltAnswer}
 use Rattle.vote.proofs.Called.{Votes, Counts}
 use Rattle.entry.specs.Entry.{Entry, delivery, turn, read_setup, read_entry}
 use Rattle.entry.specs.Numbers.{setup_numbers, entry_numbers, call_numbers}
@@ -48,28 +46,30 @@ verdict_so : {A : Type 0} (a : Answer A) {n : ℕ} → refused n ≡ verdict a �
 verdict_so (given x) e = absurd (let z : ◌≡◌ {A = ℕ} 0 1 = cc in omega arith)
 verdict_so (refused m) {n} e = let i : m ≡ n = cc in rw i
 
-module _ (n : ℕ) where
-  pub code_make_numbers : {u : Settings} {number : ℕ} {m : Made} → Makes u number m → m.outcome ≡ Outcome.Refused n → Memᴰ n make_numbers
+module _ (refusal : Refusal) where
+  pub code_make_numbers : {u : Settings} {number : ℕ} {made : Result Replica Refusal} → Makes u number made
+      → made ≡ Err refusal → Memᴰ (number_of refusal) make_numbers
   code_make_numbers {u} {number} c e =
-      make_numbers_lem u number n (verdict_so (make u number) (ap outcome (sym e) ∙ (makes_mean c).answer))
+      make_numbers_lem u number (number_of refusal)
+      (sym (ap (λ (r : Result Replica Refusal). map_answer state_of (answer_of r)) (sym e) ∙ makes_mean c))
 
   pub code_deliver_numbers : {r : Replica} {bytes : List ℕ} {at : LocalTime} {d : Delivered} → Delivers r bytes at d
-      → d.outcome ≡ Outcome.Refused n → Memᴰ n deliver_numbers
+      → d.outcome ≡ Err refusal → Memᴰ (number_of refusal) deliver_numbers
   code_deliver_numbers {r} {bytes} {at} c e =
-      deliver_numbers_lem (state_of r) bytes at n (verdict_so (deliver (state_of r) bytes at) (ap outcome (sym e) ∙ (delivers_mean c).answer))
+      deliver_numbers_lem (state_of r) bytes at (number_of refusal) (verdict_so (deliver (state_of r) bytes at) (ap answer_of (sym e) ∙ (delivers_mean c).answer))
 
   pub code_step_numbers : {r : Replica} {at : LocalTime} {output output' : List ℕ} {s : Stepped} → Steps r at output s output'
-      → s.answer ≡ StepAnswer.Refused n → Memᴰ n step_numbers
+      → s.answer ≡ Err refusal → Memᴰ (number_of refusal) step_numbers
   code_step_numbers {r} {at} {output} c e =
-      step_numbers_lem (state_of r) at output n (refused_so (λ d. d.count) (step (state_of r) at output) (ap step_answer (sym e) ∙ (steps_mean c).answer))
+      step_numbers_lem (state_of r) at output (number_of refusal) (refused_so (λ d. d.count) (step (state_of r) at output) (ap answer_of (sym e) ∙ (steps_mean c).answer))
 
-  pub code_vote_numbers : (k groups : ℕ) (q : Query) (list : List Message) {answer : VoteAnswer} → Votes k groups q list answer
-      → answer ≡ VoteAnswer.Refused n → Memᴰ n vote_numbers
-  code_vote_numbers k groups q list c e = vote_numbers_lem k groups q list n (sym (ap vote_answer (sym e) ∙ c))
+  pub code_vote_numbers : (k groups : ℕ) (q : Query) (list : List Message) {answer : Result Election Refusal} → Votes k groups q list answer
+      → answer ≡ Err refusal → Memᴰ (number_of refusal) vote_numbers
+  code_vote_numbers k groups q list c e = vote_numbers_lem k groups q list (number_of refusal) (sym (ap answer_of (sym e) ∙ c))
 
-  pub code_halt_count_numbers : (k groups group process : ℕ) (list : List Message) {answer : HaltAnswer} → Counts k groups group process list answer
-      → answer ≡ HaltAnswer.Refused n → Memᴰ n halt_count_numbers
-  code_halt_count_numbers k groups group process list c e = halt_count_numbers_lem k groups group process list n (sym (ap halt_answer (sym e) ∙ c))
+  pub code_halt_count_numbers : (k groups group process : ℕ) (list : List Message) {answer : Result HaltCount Refusal} → Counts k groups group process list answer
+      → answer ≡ Err refusal → Memᴰ (number_of refusal) halt_count_numbers
+  code_halt_count_numbers k groups group process list c e = halt_count_numbers_lem k groups group process list (number_of refusal) (sym (ap answer_of (sym e) ∙ c))
 
 -- ── 11 does not occur ──
 

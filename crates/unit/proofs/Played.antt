@@ -7,7 +7,7 @@ use lib.ListN.{length, take, replicate, length-take, length-replicate}
 use native.Mathlib.Omega.{arith}
 use denote.MutBor.{MutBor}
 use denote.Ref.{Bor}
-use Rattle.text.proofs.Ascii.{ascii}
+use Rattle.std.specs.Prelude.{codes}
 use Rattle.text.specs.Page.{Page, page, put_text}
 use Rattle.text.specs.Text.{decimal_in, decimal, line}
 use Rattle.text.proofs.Put.{put-nothing}
@@ -44,15 +44,17 @@ made : {stage : Stage} {before : Arrays} {bytes text : List ℕ} {b : Block} {af
     → (is_set_up b.stage ≡ false → after ≡ before) → PlaysBlock stage before bytes text b after text'
 made {before = before} {bytes = bytes} {text = text} plays kept =
     record {
-      lifetimes = ([], ([], ([], ([], ([], ([], ([], tt)))))));
+      lifetimes = ([], ([], ([], ([], tt))));
       lent = shown bytes;
-      pending = lent before.pending;
-      counts = lent before.counts;
-      variables = lent before.variables;
-      writes = lent before.writes;
-      lasts = lent before.lasts;
+      replicas = lent record {
+        pending = lent before.pending;
+        counts = lent before.counts;
+        variables = lent before.variables;
+        writes = lent before.writes;
+        lasts = lent before.lasts;
+      };
       page = lent text;
-      learnt = (plays, kept);
+      learnt = ((refl, refl, refl, refl, refl), (plays, kept));
     }
 
 -- ── the journal ──
@@ -91,9 +93,9 @@ module _ (before : Arrays) where
       (ap (playing u 2) (new_unit u before.pending), refl, sym (put-nothing (page text 0)))) (λ off. true-not-false true refl off)
 
   abbrev last : Page
-  last = put_text (page text 0) (ascii "card 1 0 0\n")
+  last = put_text (page text 0) (codes "card 1 0 0\n")
 
-  card : (a : Arrays) → a.variables ≡ replicate 1792 0 → a.writes ≡ replicate 7 0 → play_end (unit_in (Playing u 2) a) [] ≡ ascii "card 1 0 0\n"
+  card : (a : Arrays) → a.variables ≡ replicate 1792 0 → a.writes ≡ replicate 7 0 → play_end (unit_in (Playing u 2) a) [] ≡ codes "card 1 0 0\n"
   unfolding play_end replica_at decimal_in decimal line
   card a e f = rw (e, f)
 
@@ -108,12 +110,12 @@ module _ (before : Arrays) where
         learnt = λ a e f. rw (card a e f);
       }
 
-  pub setup-alone : Prints First before setup (ascii "card 1 0 0\n")
+  pub setup-alone : Prints First before setup (codes "card 1 0 0\n")
   unfolding digits
   setup-alone =
       let enough : end_size ≤ length text = omega (arith, room) in
-      rw (← written text (ascii "card 1 0 0\n") (omega (arith, room)) refl) (block 7 part (block 40 all (end refl enough closes)))
+      rw (← written text (codes "card 1 0 0\n") (omega (arith, room)) refl) (block 7 part (block 40 all (end refl enough closes)))
 
   -- so that is what the journal prints
-  pub setup_printed : ascii "card 1 0 0\n" ≡ journal setup
-  setup_printed = journal_of_code before setup (ascii "card 1 0 0\n") setup-alone
+  pub setup_printed : codes "card 1 0 0\n" ≡ journal setup
+  setup_printed = journal_of_code before setup (codes "card 1 0 0\n") setup-alone

@@ -4,32 +4,26 @@ use mathlib.Core.Path.{◌≡◌, ◌∙◌}
 use mathlib.Core.Bool.{Bool}
 use mathlib.Core.List.{List}
 use native.Mathlib.Omega.{arith}
+use Rattle.std.specs.Prelude.{Result, Ok, Err}
 use Rattle.question.specs.Question.{given}
+use Rattle.question.specs.declared.refusal.Refusal.{Refusal}
+use Rattle.question.specs.Refusals.{answer_of}
 use Rattle.record.specs.declared.request.Request.{Request}
 use Rattle.rules.specs.Run.{Call}
-use Rattle.rules.specs.declared.Election.{Election}
-use Rattle.rules.specs.declared.HaltCount.{HaltCount}
 use Rattle.rules.specs.declared.Settings.{Settings}
 use Rattle.failstop.specs.Suppose.{Correct}
 use Rattle.failstop.specs.Runs as rules
 use Rattle.failstop.specs.Demand3.{Demand3}
 use Rattle.failstop.proofs.Demand3.{demand3}
-use Rattle.ballot.specs.Answers.{vote_answer, halt_answer}
-use Rattle.ballot.specs.declared.count.VoteAnswer.{VoteAnswer}
-use Rattle.ballot.specs.declared.count.HaltAnswer.{HaltAnswer}
 use Rattle.unit.specs.Life.{Life}
 use Rattle.unit.specs.Unit.{accounts, UnitRan, Demand3OfCode}
 use Rattle.unit.proofs.Accounts.{calls_of, life_ran, life_account_lem}
 use Rattle.unit.proofs.Same.{supposed_same, claims_same}
 
--- an answer of the code that stands for an election is that election, and so with a count
-election_is : (answer : VoteAnswer) {e : Election} → vote_answer answer ≡ given e → answer ≡ VoteAnswer.Elected e
-election_is (VoteAnswer.Elected v) {e} given_so = let i : v ≡ e = cc in rw i
-election_is (VoteAnswer.Refused number) given_so = absurd (let z : ◌≡◌ {A = ℕ} 0 1 = cc in omega arith)
-
-count_is : (answer : HaltAnswer) {h : HaltCount} → halt_answer answer ≡ given h → answer ≡ HaltAnswer.Counted h
-count_is (HaltAnswer.Counted c) {h} given_so = let i : c ≡ h = cc in rw i
-count_is (HaltAnswer.Refused number) given_so = absurd (let z : ◌≡◌ {A = ℕ} 0 1 = cc in omega arith)
+-- an answer of the code that stands for what is given is that
+ok_is : {A : Type 0} (answer : Result A Refusal) {a : A} → answer_of answer ≡ given a → answer ≡ Ok a
+ok_is (Ok b) {a} given_so = let i : b ≡ a = cc in rw i
+ok_is (Err refusal) given_so = absurd (let z : ◌≡◌ {A = ℕ} 0 1 = cc in omega arith)
 
 module _ (u : Settings) (faulty : ℕ → Bool) (lives : ℕ → Life) (bag : List Request) (ran : UnitRan u faulty lives bag) where
   -- each replica's calls, without their answers
@@ -50,8 +44,8 @@ module _ (u : Settings) (faulty : ℕ → Bool) (lives : ℕ → Life) (bag : Li
     claims = claimed;
     elected = λ r sent unmixed list short authentic complete answer votes.
         let v = claimed.elected r sent unmixed list (omega (arith, short)) authentic complete in
-        (v.0, election_is answer (votes ∙ v.1), v.2);
+        (v.0, ok_is answer (votes ∙ v.1), v.2);
     counted = λ process low high list short authentic complete answer counts.
         let c = claimed.counted process low (omega (arith, high)) list (omega (arith, short)) authentic complete in
-        (c.0, count_is answer (counts ∙ c.1), c.2);
+        (c.0, ok_is answer (counts ∙ c.1), c.2);
   }

@@ -1,7 +1,8 @@
 -- The third demand of the code: a unit of replicas that the code made and ran, and votes and halt counts of the code on their messages.
-use Rattle.std.specs.Prelude.{ℕ, ◌+◌, ◌≤◌, ◌≡◌, Bool, length}
+use Rattle.std.specs.Prelude.{ℕ, ◌+◌, ◌≤◌, ◌≡◌, Bool, length, Result, Ok}
 use mathlib.Core.List.{List, Memᴰ}
 use Rattle.limits.specs.Limits.{max_list}
+use Rattle.question.specs.declared.refusal.Refusal.{Refusal}
 use Rattle.record.specs.declared.message.Message.{Message}
 use Rattle.record.specs.declared.request.Request.{Request}
 use Rattle.rules.specs.Batch.{failed}
@@ -12,8 +13,6 @@ use Rattle.rules.specs.declared.Settings.{Settings}
 use Rattle.failstop.specs.Suppose.{Account, account_in, Correct, Authentic, CompleteForRead, CompleteForHalts, Supposed}
 use Rattle.failstop.specs.Demand3.{machine_of, value_at, Unmixed, Returns, Reaches, Demand3}
 use Rattle.state.specs.State.{state_of}
-use Rattle.ballot.specs.declared.count.VoteAnswer.{VoteAnswer}
-use Rattle.ballot.specs.declared.count.HaltAnswer.{HaltAnswer}
 use Rattle.vote.proofs.Called.{Votes, Counts}
 use Rattle.unit.specs.Life.{Life, Lived, past_in}
 
@@ -38,10 +37,10 @@ pub record Demand3OfCode (u : Settings) (faulty : ℕ → Bool) (lives : ℕ →
   -- every correct replica among those that agreed
   pub elected : (r : Request) → Memᴰ r bag → Unmixed bag r
       → (list : List Message) → length list ≤ max_list → Authentic u faulty (accounts u lives) list → CompleteForRead u faulty r list
-      → (answer : VoteAnswer) → Votes u.k u.groups (query_of r) list answer
-      → (e : Election) × (answer ≡ VoteAnswer.Elected e) × Returns u faulty (value_at u bag r) e
+      → (answer : Result Election Refusal) → Votes u.k u.groups (query_of r) list answer
+      → (e : Election) × (answer ≡ Ok e) × Returns u faulty (value_at u bag r) e
   -- and to a halt count for one of the owner's processes, it is a count that reaches k + 1 exactly when the machine failed
   pub counted : (process : ℕ) → 1 ≤ process → process ≤ u.k + 1
       → (list : List Message) → length list ≤ max_list → Authentic u faulty (accounts u lives) list → CompleteForHalts u faulty (accounts u lives) process list
-      → (answer : HaltAnswer) → Counts u.k u.groups u.owner process list answer
-      → (h : HaltCount) × (answer ≡ HaltAnswer.Counted h) × Reaches u faulty (failed (machine_of u bag).state) h
+      → (answer : Result HaltCount Refusal) → Counts u.k u.groups u.owner process list answer
+      → (h : HaltCount) × (answer ≡ Ok h) × Reaches u faulty (failed (machine_of u bag).state) h

@@ -1,12 +1,15 @@
-use mathlib.Core.List.{append_assoc}
-use Rattle.question.proofs.Questions.{ask_chain}
+use Rattle.std.proofs.Common.{rules}
+use Rattle.question.specs.Question.{ask, unit_questions}
 use Rattle.checks.proofs.check_settings.Goals as goal
 
+pub returns-in_err-check_unit : goal.returns-in_err-check_unit
+unfolding ask unit_questions
+returns-in_err-check_unit c = search rules
+
+pub returns-in_err-ask : goal.returns-in_err-ask
+unfolding ask unit_questions
+returns-in_err-ask c = search rules
+
 pub returns : goal.returns
-returns c =
-    rw (
-      c.ask-2.ensures,
-      c.ask.ensures,
-      c.is_within.ensures,
-      c.check_unit.ensures,
-    ) (simp (ask_chain, append_assoc))
+unfolding ask unit_questions
+returns c = search rules

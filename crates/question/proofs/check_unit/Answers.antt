@@ -1,9 +1,11 @@
-use Rattle.question.specs.Question.{unit_questions}
-use Rattle.question.proofs.Questions.{ask_chain}
+use Rattle.std.proofs.Common.{rules}
+use Rattle.question.specs.Question.{ask, unit_questions}
 use Rattle.question.proofs.check_unit.Goals as goal
 
+pub returns-in_err-ask : goal.returns-in_err-ask
+unfolding ask unit_questions
+returns-in_err-ask c = search rules
+
 pub returns : goal.returns
-unfolding unit_questions
-returns c =
-    rw (c.ask-2.ensures, c.is_within-2.ensures, c.ask.ensures, c.is_within.ensures)
-    (simp ask_chain)
+unfolding ask unit_questions
+returns c = search rules

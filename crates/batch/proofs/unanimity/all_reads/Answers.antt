@@ -1,31 +1,14 @@
--- Each request passed is of another batch or a read, so the batch is all reads if what is left of it is.
-use Prim.Native.Nat.{◌+◌}
-use mathlib.Core.Path.{refl, sym, ◌∙◌}
-use native.Mathlib.Omega.{arith}
-use lib.ListN.{drop}
-use Rattle.queue.specs.Queue.{waiting}
-use Rattle.queue.proofs.Left.{left_row, left_end}
-use Rattle.batch.proofs.Agree.{reads_end, reads_pass}
+use Rattle.std.proofs.Common.{sym, ◌∙◌, rules, tests}
+use Rattle.std.proofs.lemmas.Iterator.Consumers.{YieldsList-from_first}
+use Rattle.std.proofs.lemmas.Iterator.Search.{all_from_yields_List}
+use Rattle.record.specs.Kind.{is_read}
+use Rattle.queue.specs.Queue.{places_in}
+use Rattle.batch.specs.Head.{requests_at, left_in}
+use Rattle.batch.proofs.Lists.{every_all}
 use Rattle.batch.proofs.unanimity.all_reads.Goals as goal
-
-pub loop-i-init : goal.loop-i-init
-loop-i-init c = (omega arith, refl)
-
-pub returns-then-in_batch-is_read : goal.returns-then-in_batch-is_read
-returns-then-in_batch-is_read c =
-    let a = c.args in
-    let next = left_row a.queue.now a.count c.loop-i.i _ c.pending_of-p.ensures (omega (arith, c.pending_count-n.ensures.is)) in
-    let other = rw (c.in_batch.ensures, c.is_read.ensures) at c.if-in_batch-is_read.true in
-    sym (reads_end a.t _ (drop (c.loop-i.i + 1) (waiting a.queue.now a.count)) other) ∙ (rw next at c.loop-i.invariant.1)
-
-pub loop-i-preserved : goal.loop-i-preserved
-loop-i-preserved c =
-    let a = c.args in
-    let next = left_row a.queue.now a.count c.loop-i.i _ c.pending_of-p.ensures (omega (arith, c.pending_count-n.ensures.is)) in
-    let other = rw (c.in_batch.ensures, c.is_read.ensures) at c.if-in_batch-is_read.false in
-    (omega arith, sym (reads_pass a.t _ (drop (c.loop-i.i + 1) (waiting a.queue.now a.count)) other) ∙ (rw next at c.loop-i.invariant.1))
 
 pub returns : goal.returns
 returns c =
-    let a = c.args in
-    rw (left_end a.queue.now a.count c.loop-i.i (omega (arith, c.pending_count-n.ensures.is))) at c.loop-i.invariant.1
+    let batch = requests_at c.args.t (places_in c.args.queue.now) in
+    all_from_yields_List is_read c.all.new.self _ _ c.all.ensures.ran (YieldsList-from_first (λ x. x) left_in batch c.of.ensures) (λ x b q k. search (rules, tests))
+    ∙ sym (every_all is_read batch)

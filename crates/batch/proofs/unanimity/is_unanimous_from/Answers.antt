@@ -1,54 +1,31 @@
--- What was seen so far, and that what is left agrees, is that all agree.
-use Prim.Native.Nat.{◌+◌}
-use mathlib.Core.Path.{◌≡◌, refl, sym, ◌∙◌}
-use mathlib.Core.Bool.{true, false, and-true}
-use native.Mathlib.Nat.{add-zero}
-use native.Mathlib.Omega.{arith}
-use lib.ListN.{drop, length-set}
-use Rattle.rules.specs.Replica.{stamped}
-use Rattle.queue.specs.Queue.{waiting}
-use Rattle.queue.proofs.Left.{left_row, left_end}
-use Rattle.batch.specs.Head.{requests_at}
-use Rattle.batch.proofs.Agree.{batch_pass, size_step, agree-step, agree-unanimous}
+use Rattle.std.proofs.Common.{sym, ◌∙◌, ap, refl, arith, length, add-zero}
+use mathlib.Core.Bool.{and-true}
+use lib.ListN.{length-set, length-map}
+use Rattle.queue.specs.Row.{pending_of}
+use Rattle.queue.specs.Queue.{places_in}
+use Rattle.batch.specs.Head.{requests_at, left_in}
+use Rattle.batch.proofs.Lists.{batch_few}
+use Rattle.batch.proofs.Agree.{agree-step, agree-unanimous}
 use Rattle.batch.proofs.unanimity.is_unanimous_from.Goals as goal
-use Rattle.batch.proofs.unanimity.is_unanimous_from.Goals.{then-in_batch, else-in_batch}
 
-pub loop-i-init : goal.loop-i-init
-loop-i-init c = (omega arith, refl, omega arith, omega arith, refl)
+pub overflow_add-size : goal.overflow_add-size
+overflow_add-size c =
+    let places = places_in c.args.queue.now in
+    omega (arith, c.loop-request.invariant.1, ap length c.in-Some.ensures.steps, batch_few c.args.t places, length-map c.args.queue.now pending_of)
 
-pub loop-i-preserved : goal.loop-i-preserved
-loop-i-preserved c =
-    let a = c.args in
-    let inv = c.loop-i.invariant in
-    let p = c.pending_of-p.result in
-    let rest = drop (c.loop-i.i + 1) (waiting a.queue.now a.count) in
-    let next = left_row a.queue.now a.count c.loop-i.i _ c.pending_of-p.ensures (omega (arith, c.pending_count-n.ensures.is)) in
-    let asked = sym c.in_batch.ensures in
-    elim c.if-in_batch.branch [
-      | then-in_batch w ↦
-          let mine : stamped a.t p.request ≡ true = asked ∙ w.if-in_batch.true in (
-            omega arith,
-            rw w.seen-is (simp length-set inv.1),
-            omega (arith, w.size-is),
-            rw w.size-is (size_step a.t p rest c.loop-i.size mine ∙ (rw next at inv.3)),
-            rw (w.seen-is, w.same-is, w.agrees.ensures) (agree-step a.first a.t p rest c.loop-i.seen (omega arith) c.loop-i.same mine ∙ (rw next at inv.4)),
-          )
-      | else-in_batch w ↦
-          let other : stamped a.t p.request ≡ false = asked ∙ w.if-in_batch.false in
-          let same = batch_pass a.t p rest other in (
-            omega arith,
-            rw w.seen-is inv.1,
-            omega (arith, w.size-is),
-            rw (w.size-is, ← same) (rw next at inv.3),
-            rw (w.seen-is, w.same-is, ← same) (rw next at inv.4),
-          )
-    ]
+pub loop-request-preserved : goal.loop-request-preserved
+loop-request-preserved c =
+    let inv = c.loop-request.invariant in
+    let next = c.in-Some.ensures.steps in (
+      simp length-set inv.0,
+      omega (arith, inv.1, ap length next),
+      rw c.agrees.ensures (agree-step c.args.first c.loop-request.seen c.loop-request.same c.in-Some.request (left_in c.next.new.self) (omega arith)) ∙ (rw next at inv.2),
+    )
 
 pub returns : goal.returns
 returns c =
-    let a = c.args in
-    let batch = requests_at a.t (waiting a.queue.now a.count) in
-    let none = left_end a.queue.now a.count c.loop-i.i (omega (arith, c.pending_count-n.ensures.is)) in
-    let same = sym (and-true c.loop-i.same) ∙ (rw none at c.loop-i.invariant.4) in
-    let size = sym (add-zero c.loop-i.size) ∙ (rw none at c.loop-i.invariant.3) in
-    agree-unanimous a.k batch (rw c.requires at same) (rw size refl)
+    let inv = c.loop-request.invariant in
+    let none = c.in-None.ensures.steps.0 in
+    let same = sym (and-true c.loop-request.same) ∙ (rw none at inv.2) in
+    let size = sym (add-zero c.loop-request.size) ∙ (rw none at inv.1) in
+    agree-unanimous c.args.k (requests_at c.args.t (places_in c.args.queue.now)) (rw c.requires at same) (rw size refl)

@@ -1,5 +1,11 @@
-use Rattle.question.proofs.Questions.{ask_chain}
+use Rattle.std.proofs.Common.{rules}
+use Rattle.question.specs.Question.{ask}
 use Rattle.delivery.proofs.delivery.check_place.Goals as goal
 
+pub returns-in_err-check_time : goal.returns-in_err-check_time
+unfolding ask
+returns-in_err-check_time c = search rules
+
 pub returns : goal.returns
-returns c = rw (c.ask.ensures, c.check_time.ensures) (simp ask_chain)
+unfolding ask
+returns c = search rules

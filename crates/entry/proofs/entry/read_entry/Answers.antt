@@ -1,40 +1,39 @@
--- The record's questions are asked by themselves: on a yes, it is read.
-use mathlib.Core.Path.{◌≡◌, sym, ◌∙◌}
-use lib.ListN.{length}
-use borrow.Author.Tests.{eqb-true}
-use Rattle.limits.specs.Limits.{entry_size}
-use Rattle.question.specs.Question.{given, ask, next, outcome}
-use Rattle.question.proofs.Questions.{next_asked}
-use Rattle.entry.specs.Entry.{entry_in, entry_questions, read_entry}
+-- The record's questions in their order; then its kind decides.
+use Rattle.std.proofs.Common.{◌≡◌, [], Err, rules, tests}
+use Rattle.question.specs.Question.{given, ask}
+use Rattle.question.proofs.Questions.{asked_no, asked_yes}
+use Rattle.entry.specs.Entry.{entry_in, read_entry}
 use Rattle.entry.proofs.entry.read_entry.Goals as goal
-use Rattle.entry.proofs.entry.read_entry.Goals.{After-check_entry, Else-not-is_whole}
 
-whole : (c : Else-not-is_whole) → length c.args.bytes.now ≡ entry_size
-whole c = eqb-true _ entry_size (sym c.is_whole.ensures ∙ c.if-not-is_whole.false)
-
--- the record's questions, asked by themselves, decide the answer
-decided : (c : After-check_entry) →
-    let a = c.args in
-    next (outcome c.check_entry.result) (given (entry_in a.bytes.now)) ≡ read_entry a.k a.bytes.now
+pub returns-in_err-check_size : goal.returns-in_err-check_size
 unfolding read_entry
-decided c =
-    let a = c.args in
-    next_asked (entry_questions a.k a.bytes.now) (given (entry_in a.bytes.now)) (outcome c.check_entry.result) c.check_entry.ensures
+returns-in_err-check_size c =
+    let is : c.from_residual.result ≡ Err c.in_err-check_size.field-0.0 = search rules in
+    rw is (asked_no _ _ _ c.in_err-check_size.ensures.asked)
 
-pub returns-then-not-is_whole : goal.returns-then-not-is_whole
+pub returns-in_err-ask : goal.returns-in_err-ask
 unfolding read_entry ask
-returns-then-not-is_whole c = rw (← c.is_whole.ensures, c.if-not-is_whole.true)
+returns-in_err-ask c = search (rules, tests)
 
-pub check_entry-requires : goal.check_entry-requires
-check_entry-requires c = whole c
+pub returns-in_err-ask-2 : goal.returns-in_err-ask-2
+unfolding read_entry ask
+returns-in_err-ask-2 c = search (rules, tests)
 
-pub entry_in-requires : goal.entry_in-requires
-entry_in-requires c = whole (goal.at.entry_in-requires c).Else-not-is_whole
+pub returns-in_err-ask-3 : goal.returns-in_err-ask-3
+unfolding read_entry
+returns-in_err-ask-3 c =
+    let is : c.from_residual-in_err-ask-3.result ≡ Err c.in_err-ask-3.field-0.0 = search rules in
+    let no =
+    asked_yes _ _ _ c.in_ok-check_size.ensures.asked
+    (asked_yes _ _ _ c.in_ok-ask.ensures
+    (asked_yes _ _ _ c.in_ok-ask-2.ensures
+    (asked_no _ [] (given (entry_in c.args.bytes.now)) c.in_err-ask-3.ensures))) in
+    rw is (rw (c.is_within-known.ensures, c.is_within-there.ensures, c.is_zero.ensures, c.is_zero-2.ensures) at no)
 
-pub returns-in-Done : goal.returns-in-Done
-returns-in-Done c =
-    rw c.entry_in.ensures
-    (rw c.in-Done.is at (decided (goal.at.returns-in-Done c).After-check_entry))
+pub returns-then-kind-eq-DELIVERY : goal.returns-then-kind-eq-DELIVERY
+unfolding read_entry ask
+returns-then-kind-eq-DELIVERY c = search (rules, tests)
 
-pub returns-in-Refused : goal.returns-in-Refused
-returns-in-Refused c = rw c.in-Refused.is at (decided (goal.at.returns-in-Refused c).After-check_entry)
+pub returns : goal.returns
+unfolding read_entry ask
+returns c = search (rules, tests)

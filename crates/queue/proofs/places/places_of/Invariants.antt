@@ -1,12 +1,7 @@
-use Prim.Native.Nat.{◌*◌, ◌-◌, ◌≤◌}
-use mathlib.Core.Path.{◌≡◌}
-use lib.ListN.{length}
+use Rattle.std.proofs.Common.{◌≡◌, length}
 use Rattle.queue.specs.Queue.{places_in}
 use Rattle.queue.proofs.Copies.{Copied}
 use Rattle.queue.proofs.places.places_of.Given as goal
 
 abbrev pub invariant-loop-group : goal.invariant-loop-group
-invariant-loop-group l = (l.group ≤ 4) × (l.i ≤ 16) × (length l.pending ≡ 64) × Copied (places_in l.rows) l.counts l.pending l.group l.i
-
-abbrev pub decreases-loop-group : goal.decreases-loop-group
-decreases-loop-group l = 17 * (4 - l.group) - l.i
+invariant-loop-group l = (length l.pending ≡ 64) × Copied (places_in l.fn.rows) l.fn.counts l.pending l.group

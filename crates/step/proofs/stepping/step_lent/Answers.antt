@@ -2,7 +2,8 @@
 use Prim.Native.Nat.{ℕ}
 use mathlib.Core.Path.{◌≡◌, refl}
 use native.Mathlib.Omega.{arith}
-use Rattle.question.specs.Question.{given, next, outcome}
+use Rattle.question.specs.Question.{given, next}
+use Rattle.question.specs.Refusals.{answer_of}
 use Rattle.rules.specs.Replica.{State, stepped, step}
 use Rattle.queue.specs.Queue.{queues_in}
 use Rattle.step.specs.Output.{state_in}
@@ -18,15 +19,15 @@ lent c =
 
 -- the questions, asked by themselves, decide the answer
 decided : (c : After-check_step) →
-    step (lent c.before.before.before.before.before) c.args.at c.args.output.now ≡ next (outcome c.check_step.result) (given (stepped (lent c.before.before.before.before.before) c.args.at c.args.output.now))
+    step (lent c.before.before.before.before.before) c.args.at c.args.output.now ≡ next (answer_of c.check_step.result) (given (stepped (lent c.before.before.before.before.before) c.args.at c.args.output.now))
 decided c =
-    step_next (lent c.before.before.before.before.before) c.args.at c.args.output.now (outcome c.check_step.result) c.check_step.ensures
+    step_next (lent c.before.before.before.before.before) c.args.at c.args.output.now (answer_of c.check_step.result) c.check_step.ensures
 
-pub returns-in-Done : goal.returns-in-Done
-returns-in-Done c =
-    let reached = stepped-reached (lent (goal.at.returns-in-Done c).Start) c.args.at c.args.output.now c.visits-done.ensures in
-    rw (decided (goal.at.returns-in-Done c).After-check_step, c.in-Done.is, reached)
+pub returns-in-Ok : goal.returns-in-Ok
+returns-in-Ok c =
+    let reached = stepped-reached (lent (goal.at.returns-in-Ok c).Start) c.args.at c.args.output.now c.visits-done.ensures in
+    rw (decided (goal.at.returns-in-Ok c).After-check_step, c.in-Ok.is, reached)
     record { answer = refl; state = refl; output = refl; kept = λ q e. absurd (let z : ◌≡◌ {A = ℕ} 0 1 = cc in omega arith) }
 
-pub returns-in-Refused : goal.returns-in-Refused
-returns-in-Refused c = rw (decided (goal.at.returns-in-Refused c).After-check_step, c.in-Refused.is) record { answer = refl; state = refl; output = refl; kept = λ q e. (refl, refl) }
+pub returns-in-Err : goal.returns-in-Err
+returns-in-Err c = rw (decided (goal.at.returns-in-Err c).After-check_step, c.in-Err.is) record { answer = refl; state = refl; output = refl; kept = λ q e. (refl, refl) }

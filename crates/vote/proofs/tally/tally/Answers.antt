@@ -1,24 +1,9 @@
--- The loop's invariant: the ballot so far, with the messages that are left heard too, is the ballot of the whole list.
-use mathlib.Core.Path.{◌∙◌, ap}
-use Prim.Native.Nat.{◌+◌}
-use lib.ListN.{drop}
-use native.Mathlib.Omega.{arith}
-use Rattle.ballot.specs.Ballot.{hear_all}
-use Rattle.ballot.specs.declared.ballot.Ballot.{Ballot}
+use Rattle.std.proofs.Common.{◌∙◌, arith}
 use Rattle.ballot.proofs.Heard.{hear_on, hear_end}
 use Rattle.vote.proofs.tally.tally.Goals as goal
 
-pub loop-i-preserved : goal.loop-i-preserved
-loop-i-preserved c =
-    let a = c.args in
-    let i = c.loop-i.i in (
-      omega arith,
-      ap (λ (b : Ballot). hear_all a.k a.n a.q b (drop (i + 1) a.list.now)) c.hear-b.ensures
-          ∙ hear_on a.k a.n a.q c.loop-i.b a.list.now i _ c.loop-i-test.true
-          ∙ c.loop-i.invariant.1,
-    )
+pub loop-m-preserved : goal.loop-m-preserved
+loop-m-preserved c = rw c.hear-b.ensures (hear_on _ _ _ c.loop-m.b c.args.list.now c.loop-m.m-index _ c.loop-m-test.true ∙ c.loop-m.invariant)
 
 pub returns : goal.returns
-returns c =
-    let a = c.args in
-    hear_end a.k a.n a.q c.loop-i.b a.list.now c.loop-i.i c.loop-i.invariant.0 c.loop-i-test.false ∙ c.loop-i.invariant.1
+returns c = hear_end _ _ _ c.loop-m.b c.args.list.now c.loop-m.m-index (omega arith) c.loop-m-test.false ∙ c.loop-m.invariant

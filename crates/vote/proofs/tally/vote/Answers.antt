@@ -1,9 +1,6 @@
-use mathlib.Core.Path.{◌∙◌, ap}
-use Rattle.ballot.specs.Ballot.{vote_on}
+use Rattle.std.proofs.Common.{◌∙◌}
 use Rattle.ballot.proofs.Answers.{vote_on_lem}
 use Rattle.vote.proofs.tally.vote.Goals as goal
 
 pub returns : goal.returns
-returns c =
-    let a = c.args in
-    c.answer_vote.ensures ∙ ap (vote_on a.k a.n) c.tally.ensures ∙ vote_on_lem a.k a.n a.q a.list.now
+returns c = c.answer_vote.ensures ∙ rw c.tally.ensures (vote_on_lem c.args.k c.args.n c.args.q c.args.list.now)

@@ -2,19 +2,18 @@
 use mathlib.Core.Path.{sym, ◌∙◌}
 use native.Mathlib.Omega.{arith}
 use Rattle.ballot.proofs.Answers.{elect-hit, elect_miss, elect_end}
-use borrow.Author.Rules.{rules}
 use Rattle.ballot.proofs.ballot.Ballot.elect.Goals as goal
 
 pub returns-then-has-enough : goal.returns-then-has-enough
 returns-then-has-enough c =
     let wins = rw (c.has.ensures, c.election-e.ensures) at c.if-has-enough.true in
-    rw c.election-e.ensures (sym (elect-hit c.args.k c.args.self c.loop-i.i (omega arith) wins) ∙ c.loop-i.invariant.1)
+    rw c.election-e.ensures (sym (elect-hit c.args.k c.args.self c.loop-i.i (omega arith) wins) ∙ c.loop-i.invariant)
 
 pub loop-i-preserved : goal.loop-i-preserved
 loop-i-preserved c =
     let loses = rw (c.has.ensures, c.election-e.ensures) at c.if-has-enough.false in
-    (search rules, sym (elect_miss c.args.k c.args.self c.loop-i.i (omega arith) loses) ∙ c.loop-i.invariant.1)
+    sym (elect_miss c.args.k c.args.self c.loop-i.i (omega arith) loses) ∙ c.loop-i.invariant
 
 pub returns : goal.returns
 returns c =
-    sym (elect_end c.args.k c.args.self c.loop-i.i (omega arith)) ∙ c.loop-i.invariant.1
+    sym (elect_end c.args.k c.args.self c.loop-i.i (omega arith)) ∙ c.loop-i.invariant

@@ -1,10 +1,7 @@
+-- the election among the replicas up to i is that among all, for none past i wins
+use Rattle.std.proofs.Common.{◌+◌, ◌*◌, ◌≡◌}
 use Rattle.ballot.specs.Ballot.{elect_in}
-use Prim.Native.Nat.{◌+◌, ◌*◌, ◌≤◌}
-use mathlib.Core.Path.{◌≡◌}
 use Rattle.ballot.proofs.ballot.Ballot.elect.Given as goal
 
 abbrev pub invariant-loop-i : goal.invariant-loop-i
-invariant-loop-i l = (l.i ≤ 2 * l.k + 1) × (elect_in l.k l.self l.i ≡ elect_in l.k l.self (2 * l.k + 1))
-
-abbrev pub decreases-loop-i : goal.decreases-loop-i
-decreases-loop-i l = l.i
+invariant-loop-i l = elect_in l.k l.self l.i ≡ elect_in l.k l.self (2 * l.k + 1)

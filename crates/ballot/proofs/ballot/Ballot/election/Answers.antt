@@ -7,4 +7,4 @@ use Rattle.ballot.proofs.ballot.Ballot.election.Goals as goal
 pub returns : goal.returns
 returns c =
     let a = c.args in
-    election_masked _ _ a.self.heard _ _ (gave a.self a.value) (λ i e. (both _ _ e).0) c.replicas_of-unit.ensures c.agreed-agreed.ensures
+    election_masked _ _ a.self.heard.0 _ _ (gave a.self a.value) (λ i e. (both _ _ e).0) c.of_unit-unit.ensures c.agreed-agreed.ensures

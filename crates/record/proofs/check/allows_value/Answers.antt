@@ -1,4 +1,0 @@
-use Rattle.record.proofs.check.allows_value.Goals as goal
-
-pub returns : goal.returns
-returns c = rw c.requires
