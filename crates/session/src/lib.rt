@@ -32,6 +32,7 @@ pub fn choices(place: u8) -> [u8; 4]
     [place / 64 % 4, place / 16 % 4, place / 4 % 4, place % 4]
 }
 
+// Two, as the rules have two: `asked` and `wrote_to`.
 fn read_at(process: u8, t: u64) -> Request
     ensures { result ≡ asked 1 process t 1 }
 {
