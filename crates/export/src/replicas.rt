@@ -34,10 +34,19 @@ pub extern "C" fn failstop_make(u: Settings, number: u8) -> ReplicaResult
     ensures state { state_of result.replica ≡ after blank_state (make u number) }
     ensures blank { (q : ℕ) → make u number ≡ refused q → result.replica ≡ blank_replica }
 {
-    let made = replica::make(u, number);
+    // Two returns: where both ways join, the compiler makes the replica aside and copies it.
+    let replica = match replica::make(u, number) {
+        Ok(replica) => replica,
+        Err(refusal) => {
+            return ReplicaResult {
+                refusal: u8::from(refusal),
+                replica: Replica::blank(),
+            };
+        }
+    };
     ReplicaResult {
-        refusal: refusal_of(&made),
-        replica: made.unwrap_or(Replica::blank()),
+        refusal: 0,
+        replica,
     }
 }
 

@@ -4,7 +4,7 @@ ghost use Rattle.std.specs.Prelude.{◌≤◌, IfOk, length};
 
 use crate::output::{Failure, write};
 use crate::tables::{TEXT, piece_size, text_room};
-use limits::{ENTRY, MAX_REPLICAS, UNIT_PLACES, UNIT_QUEUES, UNIT_VARIABLES};
+use limits::{ENTRY, MAX_REPLICAS, UNIT_PLACES, UNIT_QUEUES, UNIT_VARIABLES, at_most};
 use playback::{Replicas, Stage};
 use std::io::{Read, Write};
 
@@ -54,7 +54,7 @@ impl Player {
     ) -> Result<usize, Failure>
         ensures { IfOk result (λ taken. taken ≤ length left.now) }
     {
-        let size = piece_size(call).min(left.len());
+        let size = at_most(left.len(), piece_size(call));
         let mut replicas = Replicas {
             pending: &mut self.pending,
             counts: &mut self.counts,

@@ -4,7 +4,7 @@ ghost use Rattle.queue.specs.Queue.{count_of, set_count, places_in, queues_in};
 ghost use Rattle.state.specs.State.{queue_of};
 
 use crate::row::{pending_of, row_of};
-use limits::{ALL_PLACES, PLACES, QUEUES};
+use limits::{ALL_PLACES, PLACES, QUEUES, at_most};
 use rules::Pending;
 
 // How many requests a group has, as counted: 0 where it has no count.
@@ -60,7 +60,7 @@ pub fn rows_of(pending: &[Pending; ALL_PLACES], counts: &[usize; QUEUES]) -> [[u
     let mut rows = [[0u64; 4]; ALL_PLACES];
     for group in 0..QUEUES {
         let from = PLACES * group;
-        let to = from + counts[group].min(PLACES);
+        let to = from + at_most(PLACES, counts[group]);
         write_rows(&pending[from..to], &mut rows[from..to]);
     }
     rows
@@ -76,7 +76,7 @@ pub fn places_of(
 {
     for group in 0..QUEUES {
         let from = PLACES * group;
-        let to = from + counts[group].min(PLACES);
+        let to = from + at_most(PLACES, counts[group]);
         write_places(&rows[from..to], &mut pending[from..to]);
     }
 }

@@ -3,6 +3,7 @@ ghost use Rattle.std.specs.Prelude.{◌≡◌, ◌≤◌, length};
 ghost use Rattle.queue.specs.Row.{row_of, pending_of};
 ghost use Rattle.queue.specs.Queue.{waiting};
 
+use limits::at_most;
 use record::{LocalTime, Request, Timestamp};
 use rules::Pending;
 
@@ -47,5 +48,5 @@ pub fn pending_count(queue: &[[u64; 4]], count: usize) -> usize
     ensures is { result ≡ length (waiting queue.now count) }
     ensures within { result ≤ length queue.now }
 {
-    count.min(queue.len())
+    at_most(queue.len(), count)
 }

@@ -1,12 +1,20 @@
 -- The sheet as it is written, line by line. Assumes nothing.
-use Rattle.std.proofs.Common.{ℕ, suc, ◌+◌, ◌-◌, ◌≤◌, ◌<◌, ◌≡◌, refl, ap, List, ◌++◌, map, length, drop, zero-add, arith}
+use Rattle.std.proofs.Common.{ℕ, zero, suc, ◌+◌, ◌-◌, ◌≤◌, ◌<◌, ◌≡◌, refl, ap, List, ◌++◌, map, length, drop, get_or, zero-add, arith}
 use Rattle.text.specs.Text.{joined}
 use Rattle.text.specs.Page.{Page, page, put_text}
 use Rattle.text.specs.Writer.{put}
 use Rattle.text.specs.declared.Writer.{Writer}
 use Rattle.text.proofs.Put.{put-room, puts}
-use Rattle.session.specs.Session.{count_up}
+use Rattle.session.specs.Session.{choices, count_up}
 use Rattle.sheet.specs.Sheet.{session_line, sheet}
+
+-- each is one of document 02's four choices
+pub choice_small : (place i : ℕ) → get_or (choices place) i 0 < 4
+choice_small place zero = omega arith
+choice_small place (suc zero) = omega arith
+choice_small place (suc (suc zero)) = omega arith
+choice_small place (suc (suc (suc zero))) = omega arith
+choice_small place (suc (suc (suc (suc i)))) = omega arith
 
 -- those from a place on
 abbrev pub lines_from : ℕ → List ℕ

@@ -8,6 +8,7 @@ ghost use Rattle.step.specs.Output.{sends, store_in, part_of_rows, reached_store
 
 use crate::output::{Visit, value_of};
 use batch::{Batch, all_reads, first_of, is_unanimous, take_off};
+use limits::MAX_WRITES;
 use record::Timestamp;
 
 // What a step has come to: how many writes are performed, and records written so far.
@@ -28,7 +29,7 @@ pub struct Progress {
 fn one_more(writes: u64) -> u64
     ensures { result ≡ one_more writes }
 {
-    writes.saturating_add(1)
+    writes.saturating_add(1).min(MAX_WRITES)
 }
 
 // The variable takes the value. A variable past the slice is nowhere.

@@ -7,7 +7,7 @@ ghost use Rattle.step.specs.Output.{sends, part_in, reached, state_in, reached_a
 use crate::handle::{Progress, Tally};
 use crate::output::Visit;
 use batch::stable_head;
-use limits::PLACES;
+use limits::{PLACES, at_most};
 use queue::{count_of, pending_count, set_count};
 use record::LocalTime;
 use rules::Settings;
@@ -46,8 +46,8 @@ impl Visit {
         ensures { reached_all self.settings self.number self.at result pending.new counts.new variables.new output.new ≡ sends self.settings (written tally.count output.old) (visit_group self.group self.at (state_in self.settings self.number self.at (queues_in pending.old counts.old) tally.writes variables.old)) }
     {
         let i = usize::from(self.group) - 1;
-        let from = pending.len().min(PLACES * i);
-        let to = pending.len().min(PLACES * i + PLACES);
+        let from = at_most(pending.len(), PLACES * i);
+        let to = at_most(pending.len(), PLACES * i + PLACES);
         let queue = &mut pending[from..to];
         let left = pending_count(queue, count_of(counts, self.group));
         let done = self.handle_stable(Progress { left, tally }, queue, variables, output);

@@ -120,6 +120,12 @@ put-part text used word count h same =
     let cut : take free word ≡ take count word = sym (rw turned (take_min free word)) in
     rw (cut, long, drop-drop count used text)
 
+-- the same of a part that is as long, and of what was copied into it
+pub put-copied : (text : List ℕ) (used : ℕ) (word : List ℕ) (count n : ℕ) (copied : List ℕ) → used ≤ length text →
+    count ≡ min (length word) (length text - used) → n ≡ count → copied ≡ take count word →
+    page (put_mid used n text copied) (used + count) ≡ put_text (page text used) word
+put-copied text used word count n copied h same e f = rw (e, f) (put-part text used word count h same)
+
 -- ── by a writer ──
 
 pub puts : (w : Writer) (a b : List ℕ) → put (put w a) b ≡ put w (a ++ b)

@@ -5,6 +5,8 @@ ghost use Rattle.std.specs.Prelude.{◌≡◌};
 ghost use Rattle.text.specs.Text.{decimal, line};
 ghost use Rattle.text.specs.Writer.{put};
 
+use limits::at_most;
+
 // A lent text, of which so many of the first bytes are used: no String, since there is no heap. Any count may
 // stand in it; where it is past the text nothing is put.
 #[derive(Drop)]
@@ -14,6 +16,7 @@ pub struct Writer<'a> {
 }
 
 impl Writer<'_> {
+    #[inline(always)]
     fn put_word(&mut self, word: &[u8])
         ensures { self.new ≡ put self.old word.now }
     {
@@ -21,7 +24,7 @@ impl Writer<'_> {
         if self.text.len() < used {
             return;
         }
-        let count = (self.text.len() - used).min(word.len());
+        let count = at_most(self.text.len() - used, word.len());
         self.text[used..used + count].copy_from_slice(&word[..count]);
         self.used += count;
     }
@@ -36,7 +39,9 @@ impl Writer<'_> {
         self.put_word(&digits[..count]);
     }
 
-    // A word, the numbers, each with a space before it, and a line end.
+    // A word, the numbers, each with a space before it, and a line end. Inlined into callers, whose words are
+    // constants, it copies by `memcpy`; by itself by `memmove`, a name that the archive for C would need besides.
+    #[inline(always)]
     pub fn put_line(&mut self, word: &[u8], numbers: &[u64])
         ensures { self.new ≡ put self.old (line word.now numbers.now) }
     {

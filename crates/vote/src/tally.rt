@@ -7,7 +7,7 @@ ghost use Rattle.rules.specs.Vote.{vote, halt_count};
 ghost use Rattle.ballot.specs.Ballot.{halt_query, ballot_of};
 
 use ballot::Ballot;
-use limits::MAX_LIST;
+use limits::{MAX_LIST, at_most};
 use question::Refusal;
 use record::{Message, Timestamp};
 use rules::{Election, HaltCount, Query};
@@ -71,7 +71,7 @@ pub fn count_halts(
 fn first(list: &[Message], count: usize) -> &[Message]
     ensures { result.now ≡ take count list.now }
 {
-    &list[..count.min(list.len())]
+    &list[..at_most(list.len(), count)]
 }
 
 // The vote on the first `count` messages of an array.

@@ -55,8 +55,8 @@ returns-in-Ok-clause-played c =
     let a = c.args in
     let at = goal.at.returns-in-Ok-clause-played c in
     let split = c.in-Some.ensures.cases in
-    let said = rw (new_unit c.in-Ok.u a.replicas.now.pending.now) at c.play_rest-stage.ensures.played in
-    rw (first_accepted (room a.writer.now) a.block.now split.0 (free at.Else-not-goes_on) (accepted at.In-Ok), ← split.2)
+    let said = c.play_rest-stage.ensures.played in
+    rw (first_accepted (room a.writer.now) a.block.now split.0 (free at.Else-not-goes_on) (accepted at.In-Ok), ← split.2, ← new_unit c.in-Ok.u a.replicas.now.pending.now)
     (said.0, ap (λ n. entry_size + n) said.1, said.2)
 
 pub returns-in-Err-clause-played : goal.returns-in-Err-clause-played

@@ -1,5 +1,5 @@
 -- Nothing is printed where no unit is set up; else the cards stand behind what is left.
-use Rattle.std.proofs.Common.{rules, sym}
+use Rattle.std.proofs.Common.{rules, sym, ◌∙◌}
 use borrow.Author.Tests.{le-leb, lt-leb}
 use Rattle.text.proofs.Put.{puts-nothing, puts}
 use Rattle.playback.specs.Arrays.{replica_at}
@@ -14,8 +14,8 @@ pub returns-in-Playing : goal.returns-in-Playing
 returns-in-Playing c =
     let u = c.in-Playing.u in
     λ arrays e f.
-    rw (c.in-Playing.is, le-leb u.k 3 c.if-u-le-MAX_K.true, ← end_playing u c.in-Playing.place (replica_at u arrays) c.args.rest.now, c.put_cards.ensures u arrays e f, c.put_part-in-Playing.ensures)
-    (puts _ _ _)
+    rw (c.in-Playing.is, le-leb u.k 3 c.if-u-le-MAX_K.true, ← end_playing u c.in-Playing.place (replica_at u arrays) c.args.rest.now)
+    (c.put_cards.ensures u arrays e f ∙ rw c.put_part-in-Playing.ensures (puts _ _ _))
 
 pub returns-else-u-le-MAX_K : goal.returns-else-u-le-MAX_K
 returns-else-u-le-MAX_K c =

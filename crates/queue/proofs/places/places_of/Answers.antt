@@ -7,10 +7,10 @@ use Rattle.queue.proofs.places.places_of.Goals as goal
 pub loop-group-preserved : goal.loop-group-preserved
 loop-group-preserved c =
     let from = 16 * c.loop-group.group in
-    let n = from + c.min.result - from in (
-      simp (length-append, length-take, length-drop) (omega (arith, c.min.ensures, c.loop-group.invariant.0, c.write_places.new.places)),
+    let n = from + c.at_most.result - from in (
+      simp (length-append, length-take, length-drop) (omega (arith, c.at_most.ensures, c.loop-group.invariant.0, c.write_places.new.places)),
       copy_group (places_in c.args.rows.now) c.args.counts.now c.loop-group.pending c.write_places.new.places c.loop-group.group n c.loop-group.invariant.1
-          (omega (arith, c.min.ensures)) (omega (arith, c.loop-group.invariant.0)) (omega arith) (c.write_places.ensures ∙ places-part c.args.rows.now from n),
+          (omega (arith, c.at_most.ensures)) (omega (arith, c.loop-group.invariant.0)) (omega arith) (c.write_places.ensures ∙ places-part c.args.rows.now from n),
     )
 
 pub returns : goal.returns

@@ -9,4 +9,4 @@ returns-in_err-check_settings c =
     rw is (asked_no (settings_questions c.args.u) _ _ c.in_err-check_settings.ensures)
 
 pub returns : goal.returns
-returns c = rw (← c.is_within-own.ensures) (asked_yes (settings_questions c.args.u) _ _ c.in_ok-check_settings.ensures c.ask.ensures)
+returns c = asked_yes (settings_questions c.args.u) _ _ c.in_ok-check_settings.ensures (rw c.is_within-own.ensures at c.ask.ensures)

@@ -12,5 +12,5 @@ shared_ref_as_front-text g c =
 pub returns : goal.returns
 returns g c =
     let left = c.args.left.now in
-    let size = c.min-size.result in
+    let size = c.at_most-size.result in
     omega (arith, taken-lent _ _ (take size left) c.play_block-b.ensures.played.1, length-take size left)

@@ -15,8 +15,8 @@ returns c =
     let rows = a.pending.now in
     let begun : Progress = record { left = c.count_of.result; tally = a.tally } in
     let done = c.handle_stable-done in
-    let begins : c.min-from.result ≡ min (16 * i) (length rows) = omega (arith, c.min-from.ensures, c.from-i.ensures) in
-    let ends : c.min-to.result ≡ min (16 * i + 16) (length rows) = omega (arith, c.min-to.ensures, c.from-i.ensures) in
+    let begins : c.at_most-from.result ≡ min (16 * i) (length rows) = omega (arith, c.at_most-from.ensures, c.from-i.ensures) in
+    let ends : c.at_most-to.result ≡ min (16 * i + 16) (length rows) = omega (arith, c.at_most-to.ensures, c.from-i.ensures) in
     let counted : c.count_of.result ≡ get_or a.counts.now i 0 = rw group at c.count_of.ensures in
     let visited = rw (waiting_most _ _ _ c.pending_count-left.ensures.is, group) at done.ensures.reached in
     elim c.if-done-left.branch [
