@@ -39,8 +39,8 @@ fn meet(head: Option<Head>, p: Pending) -> Option<Head>
         return Some(h);
     }
     Some(Head {
-        timestamp,
         first: h.first.min(one.first),
+        ..h
     })
 }
 

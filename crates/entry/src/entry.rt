@@ -32,7 +32,7 @@ fn is_zero(bytes: &[u8]) -> bool
     bytes.iter().all(|b| *b == 0)
 }
 
-// Question 18. Not by `ask`, which does not promise that an Ok means yes.
+// Question 18. Not by `ask`: that an Ok means a whole record is promised too.
 fn check_size(bytes: &[u8]) -> Result<(), Refusal>
     ensures asked { answer_of result ≡ ask ((eqb (length bytes.now) entry_size else 18) ∷ []) (given worked) }
     ensures whole { IsOk result → length bytes.now ≡ entry_size }

@@ -22,7 +22,7 @@ pub const MAX_TIME: u64 = 4611686018427387904;
 // The variables of a copy.
 pub const VARIABLES: usize = 256;
 
-// The count of writes performed holds at this, the greatest 64-bit number; in the code by `saturating_add`.
+// The count of writes performed holds at this, the greatest 64-bit number.
 pub const MAX_WRITES: u64 = 18446744073709551615;
 
 // The queues of a replica, one for each group that there may be; the pending requests that each has
@@ -56,7 +56,8 @@ pub const OUTPUT: usize = MAX_SENT * RECORD;
 // The messages of a list that is voted on.
 pub const MAX_LIST: usize = 64;
 
-// A size, or the limit where it is more. The library's `min` says the same; two must-fail edits stand here.
+// A size, or the limit where it is more. The library's `min` says the same; here a size is cut in six crates, and
+// two must-fail edits stand.
 pub fn at_most(limit: usize, size: usize) -> usize
     ensures { result ≡ min size limit }
 {
