@@ -56,8 +56,8 @@ pub const OUTPUT: usize = MAX_SENT * RECORD;
 // The messages of a list that is voted on.
 pub const MAX_LIST: usize = 64;
 
-// A size, or the limit where it is more. The library's `min` says the same; here a size is cut in six crates, and
-// two must-fail edits stand.
+// A size, or the limit where it is more, as the library's `min` gives it: six crates cut a size by this, and two
+// must-fail edits stand here.
 pub fn at_most(limit: usize, size: usize) -> usize
     ensures { result ≡ min size limit }
 {
